@@ -1,0 +1,23 @@
+-- The definitions that contracts cite, each in the module of its subject.
+pub mod Types
+pub mod Limits
+pub mod TableLimits
+pub mod Time
+pub mod Capacity
+pub mod Load
+pub mod Eligible
+pub mod Trees
+pub mod Picks
+pub mod Order
+pub mod Listing
+pub mod Verdicts
+pub mod Page
+pub mod Keys
+pub mod Rows
+pub mod Sound
+pub mod Callers
+pub mod Trial
+pub mod OrderLaws
+pub mod Rules
+pub mod Fields
+pub mod TreeRules

@@ -1,0 +1,74 @@
+-- What loaded tables keep.
+use Rattle.std.specs.Prelude.{ℕ, Bool, true, ◌&&◌, ◌==◌, nat_le, List, [], ◌∷◌, ◌++◌, map, filter, length, Option, is_none, ◌≡◌, ◌≢◌, ◌<◌, ◌⊎◌, IsTrue, Contains}
+use Rattle.std.specs.List.{list_all}
+use Rattle.std.specs.declared.cmp.Ordering.TheVariants.{Less}
+use Rattle.desk_base.specs.Types.{Tables, Key, AnyRow, TableRule, GroupRow, BookingRow}
+use Rattle.desk_base.specs.declared.tables.Table.TheVariants.{Resource as ResourceTable, Group as GroupTable, Booking as BookingTable}
+use Rattle.desk_base.specs.declared.tables.AnyRow.TheVariants.{Group}
+use Rattle.desk_base.specs.declared.rules.TableRule.TheVariants.{Order, Limit, Field, Citation, Fits as FitsRule, Booked, Count}
+use Rattle.desk_base.specs.Limits.{revision_limit, serial_limit}
+use Rattle.desk_base.specs.TableLimits.{limit_of}
+use Rattle.desk_base.specs.Time.{IsMinute}
+use Rattle.desk_base.specs.Rules.{first_broken}
+use Rattle.desk_base.specs.Keys.{key_cmp, id_key}
+use Rattle.desk_base.specs.Rows.{rows_in, key_of, keys_in, citations_of, rules_of}
+use Rattle.desk_base.specs.TreeRules.{tree_fault}
+use Rattle.desk_base.specs.Load.{IsWithinRoom, ask_of}
+use Rattle.desk_base.specs.Trees.{tree_of, patterns}
+use Rattle.desk_base.specs.Picks.{pattern_of, choices_of}
+use Rattle.desk_base.specs.Listing.{IsOnGrid, ask_for}
+
+-- a group's nodes and leaves break no tree rule
+abbrev pub has_tree : AnyRow → Bool
+has_tree (Group g) = is_none (tree_fault g.nodes (length g.leaves))
+has_tree _ = true
+
+-- the row breaks no field rule and no tree rule
+abbrev pub keeps_fields : Tables → AnyRow → Bool
+keeps_fields t row = is_none (first_broken (rules_of t row)) && has_tree row
+
+-- the group's standing bookings
+abbrev pub bookings_of : Tables → GroupRow → List BookingRow
+bookings_of t g = filter (λ b. b.group == g.id) t.bookings
+
+-- the group has for each chosen leaf of one pattern one booking, from one start on its grid
+pub record IsBooked (t : Tables) (g : GroupRow) : Type 0 where
+  pub start : ℕ
+  pub picks : List (Option ℕ)
+  pub grid : IsOnGrid g start
+  pub pattern : Contains (patterns (tree_of g.nodes)) (pattern_of picks)
+  pub each : (j : ℕ) → map ask_of (filter (λ b. b.leaf == j) (bookings_of t g)) ≡ map (ask_for start) (filter (λ c. c.number == j) (choices_of 0 g.leaves picks))
+
+-- the counters are within their limits, and no booking is above its counter
+abbrev pub is_counted : Tables → Bool
+is_counted t = nat_le t.revision revision_limit && nat_le t.last_booking serial_limit && list_all (λ b. nat_le b.id t.last_booking) t.bookings
+
+-- at this key the tables keep the rule
+abbrev pub Keeps : TableRule → Tables → Key → Type 0
+Keeps Order t k = (before after : List Key) (j : Key) → keys_in t k.table ≡ before ++ j ∷ k ∷ after → key_cmp j k ≡ Less
+Keeps Limit t k = (before after : List Key) → keys_in t k.table ≡ before ++ k ∷ after → length before ≢ limit_of k.table
+Keeps Field t k = (row : AnyRow) → Contains (rows_in t k.table) row → key_of row ≡ k → IsTrue (keeps_fields t row)
+Keeps Citation t k = (row : AnyRow) (c : Key) → Contains (rows_in t k.table) row → key_of row ≡ k → Contains (citations_of row) c → Contains (keys_in t c.table) c
+Keeps FitsRule t k = k ≡ id_key ResourceTable k.a → (m : ℕ) → IsMinute m → IsWithinRoom t (map ask_of t.bookings) k.a m
+Keeps Booked t k = (g : GroupRow) → Contains t.groups g → id_key GroupTable g.id ≡ k → (bookings_of t g ≡ []) ⊎ IsBooked t g
+Keeps Count t k = k ≡ id_key BookingTable 0 → IsTrue (is_counted t)
+
+-- every rule is kept at every key
+pub record IsSound (t : Tables) : Type 0 where
+  pub keeps : (rule : TableRule) (k : Key) → Keeps rule t k
+
+-- the place of a rule
+abbrev pub rule_number : TableRule → ℕ
+rule_number Order = 1
+rule_number Limit = 2
+rule_number Field = 3
+rule_number Citation = 4
+rule_number FitsRule = 5
+rule_number Booked = 6
+rule_number Count = 7
+
+-- the first rule that is broken, and the least key at which it is
+pub record IsBadAt (t : Tables) (rule : TableRule) (k : Key) : Type 0 where
+  pub broken : Keeps rule t k → ⊥
+  pub least : (j : Key) → key_cmp j k ≡ Less → Keeps rule t j
+  pub first : (earlier : TableRule) → rule_number earlier < rule_number rule → (j : Key) → Keeps earlier t j

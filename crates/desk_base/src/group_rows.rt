@@ -1,0 +1,82 @@
+//! Requirement groups: a window, a grid of starts, and a tree of leaves.
+use crate::ids::{CharacteristicId, GroupId, ResourceId, RoleId, TerritoryId, UnitId};
+use crate::items::Items;
+use crate::minutes::{Minute, Window};
+use crate::names::Name;
+use crate::resource_rows::Kind;
+
+pub type Kinds = Items<Kind>;
+
+pub type Roles = Items<RoleId>;
+
+/// Characteristics, each with the least rating that serves.
+pub type Ratings = Items<(CharacteristicId, u8)>;
+
+pub type Territories = Items<TerritoryId>;
+
+pub type Units = Items<UnitId>;
+
+pub type Resources = Items<ResourceId>;
+
+pub type Nodes = Items<Node>;
+
+pub type Leaves = Items<Leaf>;
+
+/// The number of a leaf, from 0 in preorder.
+pub type LeafNo = u8;
+
+/// The number of a node, from 0 in preorder.
+pub type NodeNo = u8;
+
+/// An All node needs each of its children, and an Any node exactly one of them.
+#[derive(Clone, Copy, Debug, PartialEq, Eq)]
+pub enum NodeKind {
+    All,
+    Any,
+    Leaf,
+}
+
+/// What the resources chosen under a node are to have in common.
+#[derive(Clone, Copy, Debug, PartialEq, Eq)]
+pub enum Same {
+    None,
+    Unit,
+    Site,
+    Crew,
+}
+
+/// A node of a tree in preorder. The nodes deeper than it that follow at once stand under it.
+#[derive(Clone, Copy, Debug)]
+pub struct Node {
+    pub depth: u8,
+    pub kind: NodeKind,
+    pub same: Same,
+}
+
+/// What one resource is asked for: how many minutes, how much effort, and who serves. An empty list makes no demand.
+#[derive(Debug, Drop)]
+pub struct Leaf {
+    pub duration: u32,
+    pub effort: u32,
+    pub kinds: Kinds,
+    pub roles: Roles,
+    pub characteristics: Ratings,
+    pub territories: Territories,
+    pub units: Units,
+    pub required: Resources,
+    pub restricted: Resources,
+    pub window: Option<Window>,
+}
+
+/// A requirement group. Its starts are `from` plus whole steps (in minutes), below `to`. Its leaves are those of its tree, in
+/// preorder.
+#[derive(Debug, Drop)]
+pub struct GroupRow {
+    pub id: GroupId,
+    pub name: Name,
+    pub from: Minute,
+    pub to: Minute,
+    pub step: u16,
+    pub nodes: Nodes,
+    pub leaves: Leaves,
+}
