@@ -1,9 +1,9 @@
-//! The order of rows and positions.
-ghost use Rattle.std.specs.Prelude.{◌≡◌, refl};
+//! The order of rows and positions, and whether a position is a prefix of another.
+ghost use Rattle.std.specs.Prelude.{◌≡◌, ◌↔◌, IsTrue, refl};
 ghost use Rattle.std.specs.Ordering.{nat_cmp, eq_by_cmp, as_partial_cmp, is_eq};
 ghost use Rattle.std.specs.Cmp.{equiv, partial_order_from_own_ties, po, partial_equiv_from_equiv};
 ghost use Rattle.std.specs.Cmp.Lexicographic.{slice_cmp};
-ghost use Rattle.desk_base.specs.Order.{pick_cmp, found_cmp, position_cmp};
+ghost use Rattle.desk_base.specs.Order.{pick_cmp, found_cmp, position_cmp, Begins};
 ghost use Rattle.desk_base.specs.OrderLaws.{found_total, position_total};
 ghost use Rattle.std.proofs.lemmas.Cmp.{eq_by_cmp_equiv};
 
@@ -150,5 +150,15 @@ impl Ord for Position {
 
     fn cmp(&self, other: &Position) -> Ordering {
         position_cmp(self, other)
+    }
+}
+
+impl Position {
+    /// Whether this is a prefix of the other position, and so comes before it or is equal to it.
+    pub fn begins(&self, other: &Position) -> bool
+        ensures { IsTrue result ↔ Begins self.now other.now }
+    {
+        self.start == other.start
+            && other.picks.as_slice().starts_with(self.picks.as_slice())
     }
 }
