@@ -12,6 +12,7 @@ pub mod Order
 pub mod Listing
 pub mod Verdicts
 pub mod Page
+pub mod Positions
 pub mod Keys
 pub mod Rows
 pub mod Sound

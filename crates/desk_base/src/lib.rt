@@ -12,6 +12,7 @@ mod copying;
 mod group_rows;
 mod ids;
 mod items;
+pub mod laws;
 mod memory;
 mod minutes;
 mod names;

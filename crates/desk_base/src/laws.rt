@@ -1,0 +1,48 @@
+//! Laws of the definitions: each is the contract of a function that does nothing.
+ghost use Rattle.std.specs.Prelude.{◌≡◌, ◌+◌, ◌++◌, ◌≤◌, ℕ, List, Option, None, length, sum_by, Contains};
+ghost use Rattle.desk_base.specs.Types.{Tables, GroupRow, BookingRow, Found, Position, Options, Ask, Page};
+ghost use Rattle.desk_base.specs.Load.{weight, own_load, members, sort_of, pool, IsClash};
+ghost use Rattle.desk_base.specs.Listing.{IsLive, IsListing, IsLiveList};
+ghost use Rattle.desk_base.specs.Page.{IsPage, AreResumed, Joins};
+ghost use Rattle.desk_base.specs.Positions.{position_at};
+ghost use Rattle.desk_base.specs.Sound.{IsSound};
+
+/// The weights of two lists of bookings add up.
+pub fn weights_add()
+    ensures { (t : Tables) (standing asked : List Ask) (r m : ℕ) → weight t (standing ++ asked) r m ≡ weight t standing r m + weight t asked r m }
+{}
+
+/// In sound tables a pool weighs what stands on it and what its members weigh.
+pub fn pool_weights()
+    ensures { (t : Tables) (asks : List Ask) (r m : ℕ) → IsSound t → sort_of t r ≡ pool → weight t asks r m ≡ sum_by (own_load r m) asks + sum_by (λ x. weight t asks x m) (members t r m) }
+{}
+
+/// Bookings clash at one minute, and there at one resource.
+pub fn clashes_agree()
+    ensures { (t : Tables) (standing : List BookingRow) (asked : List Ask) (r m n r' m' n' : ℕ) → IsClash t standing asked r m n → IsClash t standing asked r' m' n' → (m ≡ m') × (r ≡ r') }
+{}
+
+/// What begins a live position is live.
+pub fn prefixes_live()
+    ensures { (t : Tables) (g : GroupRow) (o : Options) (s : ℕ) (first more : List (Option ℕ)) → 1 ≤ length first → IsLive t g o (position_at s (first ++ more)) → IsLive t g o (position_at s first) }
+{}
+
+/// A search has one listing.
+pub fn listings_agree()
+    ensures { (t : Tables) (g : GroupRow) (o : Options) (xs ys : List Found) → IsListing t g o xs → IsListing t g o ys → xs ≡ ys }
+{}
+
+/// A search has one list of live positions.
+pub fn live_lists_agree()
+    ensures { (t : Tables) (g : GroupRow) (o : Options) (xs ys : List Position) → IsLiveList t g o xs → IsLiveList t g o ys → xs ≡ ys }
+{}
+
+/// After one position and with one limit a search has one page.
+pub fn pages_agree()
+    ensures { (t : Tables) (g : GroupRow) (o : Options) (after : Option Position) (limit : ℕ) (x y : Page) → IsPage t g o after limit x → IsPage t g o after limit y → x ≡ y }
+{}
+
+/// Pages that resume one another join to the first rows of the listing, and to all of them where the last says that it ends.
+pub fn pages_join()
+    ensures { (t : Tables) (g : GroupRow) (o : Options) (pages : List Page) (listing : List Found) → IsSound t → Contains t.groups g → IsListing t g o listing → AreResumed t g o None pages → Joins t g o pages listing }
+{}
