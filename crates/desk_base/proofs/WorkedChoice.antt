@@ -14,8 +14,9 @@ use Rattle.desk_base.specs.Picks.{keeps_same}
 use Rattle.desk_base.specs.Order.{position_cmp}
 use Rattle.desk_base.specs.Listing.{IsOnGrid}
 use Rattle.desk_base.specs.Verdicts.{IsVerdict}
+use Rattle.desk_base.specs.Positions.{position_at}
 use Rattle.desk_base.specs.Trial.{trial, trial_group, plain_leaf}
-use Rattle.desk_base.proofs.WorkedParts.{monday, node, row, position_at, live_at, rows_at}
+use Rattle.desk_base.proofs.WorkedParts.{monday, node, row, live_at, rows_at}
 use Rattle.desk_base.proofs.WorkedPatterns.{bad_from_second}
 
 abbrev role : ℕ → NamedRow

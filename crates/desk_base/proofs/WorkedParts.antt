@@ -3,7 +3,7 @@ use Rattle.std.proofs.Common.{ℕ, zero, suc, ◌+◌, ◌*◌, ◌-◌, ◌%◌
 use Rattle.std.specs.Prelude.{codes, flat_map, ◌==◌}
 use Rattle.std.specs.List.{list_all, list_any}
 use Rattle.std.specs.Option.{option_map_or}
-use Rattle.desk_base.specs.Types.{Tables, GroupRow, ResourceRow, MemberRow, Found, Position, Ask, Node, NodeKind, Same, Kind}
+use Rattle.desk_base.specs.Types.{Tables, GroupRow, ResourceRow, MemberRow, Found, Ask, Node, NodeKind, Same, Kind}
 use Rattle.desk_base.specs.declared.group_rows.Same.TheVariants.{None as NoSame}
 use Rattle.desk_base.specs.Time.{minutes_of}
 use Rattle.desk_base.specs.Load.{weight, room}
@@ -35,10 +35,6 @@ node depth kind = record { depth = depth; kind = kind; same = NoSame }
 -- a row
 abbrev pub row : ℕ → List (Option ℕ) → Found
 row start picks = record { start = start; picks = picks }
-
--- a position
-abbrev pub position_at : ℕ → List (Option ℕ) → Position
-position_at start picks = record { start = start; picks = picks }
 
 -- the first is a prefix of the second
 abbrev pub are_first_bits : List Bool → List Bool → Bool

@@ -26,17 +26,23 @@ two_picks = (at_nine, bad_from_second (tree_of trial_group.nodes) (true ∷ true
 
 -- the one leaf is left out
 no_resource : IsVerdict trial trial_group (monday 9 0) (None ∷ []) (BadShape 0)
-no_resource = (at_nine, record {
-  broken = inr (omega arith, begins_none (tree_of trial_group.nodes) (false ∷ []) refl);
-  first = λ i h. absurd (omega (arith, h));
-})
+no_resource = (
+  at_nine,
+  record {
+    broken = inr (omega arith, begins_none (tree_of trial_group.nodes) (false ∷ []) refl);
+    first = λ i h. absurd (omega (arith, h));
+  },
+)
 
 -- no pick at all
 no_pick : IsVerdict trial trial_group (monday 9 0) [] (BadShape 0)
-no_pick = (at_nine, record {
-  broken = inl (refl, (true, [], (0, omega arith, refl)));
-  first = λ i h. absurd (omega (arith, h));
-})
+no_pick = (
+  at_nine,
+  record {
+    broken = inl (refl, (true, [], (0, omega arith, refl)));
+    first = λ i h. absurd (omega (arith, h));
+  },
+)
 
 -- what is no resource is of no kind
 unknown_resource : first_broken_rule trial plain_leaf 99 ≡ Some Kind

@@ -6,6 +6,8 @@ ghost use Rattle.desk_base.specs.Listing.{IsLive, IsListing, IsLiveList};
 ghost use Rattle.desk_base.specs.Page.{IsPage, AreResumed, Joins};
 ghost use Rattle.desk_base.specs.Positions.{position_at};
 ghost use Rattle.desk_base.specs.Sound.{IsSound};
+ghost use Rattle.desk_base.specs.Verdicts.{IsVerdict};
+ghost use Rattle.desk_base.specs.declared.rules.Verdict.{Verdict};
 
 /// The weights of two lists of bookings add up.
 pub fn weights_add()
@@ -45,4 +47,9 @@ pub fn pages_agree()
 /// Pages that resume one another join to the first rows of the listing, and to all of them where the last says that it ends.
 pub fn pages_join()
     ensures { (t : Tables) (g : GroupRow) (o : Options) (pages : List Page) (listing : List Found) → IsSound t → Contains t.groups g → IsListing t g o listing → AreResumed t g o None pages → Joins t g o pages listing }
+{}
+
+/// Of a start and picks at most one verdict holds.
+pub fn verdicts_agree()
+    ensures { (t : Tables) (g : GroupRow) (s : ℕ) (picks : List (Option ℕ)) (v w : Verdict) → IsVerdict t g s picks v → IsVerdict t g s picks w → v ≡ w }
 {}

@@ -22,6 +22,8 @@ mod rules;
 mod searches;
 mod serials;
 mod tables;
+#[cfg(test)]
+mod tests;
 mod trial;
 
 pub use answers::{Answer, Command, Outcome, Query, Refusal, Reply};

@@ -158,7 +158,6 @@ impl Position {
     pub fn begins(&self, other: &Position) -> bool
         ensures { IsTrue result ↔ Begins self.now other.now }
     {
-        self.start == other.start
-            && other.picks.as_slice().starts_with(self.picks.as_slice())
+        self.start == other.start && other.picks.as_slice().starts_with(self.picks.as_slice())
     }
 }

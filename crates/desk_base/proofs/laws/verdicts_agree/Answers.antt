@@ -1,0 +1,5 @@
+use Rattle.desk_base.proofs.VerdictLemmas.{one_verdict}
+use Rattle.desk_base.proofs.laws.verdicts_agree.Goals as goal
+
+pub returns : goal.returns
+returns c = one_verdict
