@@ -1,0 +1,29 @@
+-- A text without padding parses as just the number whose decimal it is.
+use Rattle.std.proofs.Common.{◌≡◌, ◌≢◌, ℕ, ◌<◌, ◌^◌, List, length, get_or, decimal, Result, Ok, Err, MatchOption, inl, inr, sym, ap, subst, ◌∙◌, arith, IsUtf8}
+use Rattle.std.specs.Result.{result_ok}
+use Rattle.std.specs.Str.Parse.{AllDigits, digits_value, ParsesUnsigned}
+use Rattle.std.proofs.lemmas.Str.{IsUtf8-from_ascii}
+use Rattle.std.proofs.lemmas.Str.Parse.{IsNumeralModel, numerals_by_value, tells_digits, parse_plain, not_in_digits}
+use Rattle.std.proofs.lemmas.Fmt.{decimal-digits_value, parse-decimal, digits_decimal, first_decimal, decimal_nonempty, length-decimal-le_succ, IsAscii-decimal}
+use Rattle.desk_batch.specs.Decimals.{IsPadded}
+
+own : IsNumeralModel (AllDigits 10) (digits_value 10)
+own = numerals_by_value (AllDigits 10) tells_digits
+
+-- no number is written with padding
+pub decimal_not_padded : (text : List ℕ) (n : ℕ) → n < 2 ^ 64 → text ≡ decimal n → ¬ (IsPadded text)
+decimal_not_padded text n small e (inl plus) =
+    not_in_digits own (decimal n) 43 (digits_decimal own n small) (λ r. omega (arith, r)) 0 (decimal_nonempty n small) (ap (λ t. get_or t 0 0) (sym e) ∙ plus)
+decimal_not_padded text n small e (inr zero) =
+    omega (arith, ap length e, ap (λ t. get_or t 0 0) e, λ (some : 0 < n). first_decimal n some small, length-decimal-le_succ n small)
+
+-- nor in bytes that are no text
+pub decimal_is_text : (text : List ℕ) (n : ℕ) → n < 2 ^ 64 → text ≡ decimal n → IsUtf8 text
+decimal_is_text text n small e = subst IsUtf8 (sym e) (IsUtf8-from_ascii (decimal n) (IsAscii-decimal n small))
+
+pub parse_exact : {E : Type 0} (text : List ℕ) (r : Result ℕ E) → ¬ (IsPadded text) → ParsesUnsigned 64 10 text r → MatchOption (result_ok r) ((n : ℕ) → n < 2 ^ 64 → text ≢ decimal n) (λ n. text ≡ decimal n)
+parse_exact {E} text (Ok x) plain h =
+    let read = parse_plain own {E = E} 64 text (Ok x) h (λ e. plain (inl e)) in
+    let one : get_or text 0 0 ≡ 48 → length text ≡ 1 = λ z. let short : ¬ (1 < length text) = λ l. plain (inr (z, l)) in omega (arith, short, read.0.1) in
+    sym (ap (λ n. decimal n) read.1 ∙ decimal-digits_value own text read.0.0 read.0.1 one read.0.2)
+parse_exact {E} text (Err e) plain h = λ n small is. let bad : Err e ≡ Ok n = parse-decimal 64 n text (Err e) small small is h in cc
