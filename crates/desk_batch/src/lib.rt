@@ -16,3 +16,6 @@ pub use cursors::cursor_text;
 pub use moments::moment_text;
 pub use replies::{answer_response, refusal_response};
 pub use requests::{Routed, WebRefusal, read_request};
+
+#[cfg(test)]
+mod tests;
