@@ -9,7 +9,12 @@ use Rattle.jiff_core.proofs.SignedLemmas.{signed_arith, one_part}
 use Rattle.jiff_core.proofs.CalendarLemmas.{days_from_civil-day_count, day_count-epoch, day_count-lt_year, day_count-lt_month, day_count-day, day_count-day_of_year, day_count-later_year, days_in_year_bounds}
 use Rattle.jiff_core.proofs.MarchLemmas.{day_count-early}
 use Rattle.jiff_core.proofs.DateLemmas.{civil}
+use Rattle.desk_base.specs.Limits.{last_day}
 use Rattle.desk_batch.specs.Moments.{day_number, last_begun, year_of, month_of, day_of_month}
+
+-- the days that the calendar counts before 1970-01-01
+abbrev before_epoch : ℕ
+before_epoch = 4_371_953
 
 next_begun : (b : Bool) (n start day k rest : ℕ) → nat_le start day ≡ b → k ≤ suc n → (k ≤ n → rest ≡ k) → (k ≡ suc n → start ≤ day) → (k ≤ n → day < start) → (if b then suc n else rest) ≡ k
 next_begun true n start day k rest e le below here later =
@@ -30,15 +35,15 @@ last_begun_is first (suc n) day k low high here later =
     (λ le. later (suc n) (omega arith) (omega arith))
 
 -- from 1970 on a day number is what is counted since then
-day_number-day_count : (y m d : ℕ) → 4_371_953 ≤ day_count (pos y) m d → day_number y m d + 4_371_953 ≡ day_count (pos y) m d
+day_number-day_count : (y m d : ℕ) → before_epoch ≤ day_count (pos y) m d → day_number y m d + before_epoch ≡ day_count (pos y) m d
 day_number-day_count y m d h = omega (arith, signed_arith, days_from_civil-day_count (pos y) m d, one_part (days_from_civil (pos y) m d))
 
 -- 2100-01-01 is the last day of the horizon
-day_count-last : day_count (pos 2100) 1 1 ≡ 4_371_953 + 47482
+day_count-last : day_count (pos 2100) 1 1 ≡ before_epoch + last_day
 day_count-last = day_count-early (pos 2100) 12099 1 1 refl (omega arith) (omega arith) (omega arith)
 
 -- a year from 1970 on begins on that day or later
-day_count_after_epoch : (y : ℕ) → 1970 ≤ y → 4_371_953 ≤ day_count (pos y) 1 1
+day_count_after_epoch : (y : ℕ) → 1970 ≤ y → before_epoch ≤ day_count (pos y) 1 1
 day_count_after_epoch y h = by_lt_z (pos 1970) (pos y)
     (λ lt. omega (arith, day_count-epoch, day_count-later_year (pos 1970) (pos y) (omega (arith, signed_arith)) lt))
     (λ ge. let same : y ≡ 1970 = omega (arith, signed_arith) in rw same (omega (arith, day_count-epoch)))
@@ -47,8 +52,8 @@ natural : (z : ℤ) → pos 1970 ≤ℤ z → (y : ℕ) × (z ≡ pos y)
 natural (pos n) h = (n, refl)
 natural (negsuc n) h = absurd (omega (arith, signed_arith))
 
-module _ (d : Date) (day : ℕ) (at : epoch_day d ≡ pos day) (within : day ≤ 47482) where
-  count : day_count d.year d.month d.day ≡ day + 4_371_953
+module _ (d : Date) (day : ℕ) (at : epoch_day d ≡ pos day) (within : day ≤ last_day) where
+  count : day_count d.year d.month d.day ≡ day + before_epoch
   count = omega (arith, signed_arith, days_from_civil-day_count d.year d.month d.day)
 
   place : day_count d.year d.month d.day + 1 ≡ day_count d.year d.month 1 + d.day
@@ -84,10 +89,10 @@ module _ (d : Date) (day : ℕ) (at : epoch_day d ≡ pos day) (within : day ≤
   date_year = let year = natural d.year low in year.1 ∙ ap (λ y. pos y) (sym (year_is year.0 year.1))
 
   -- the same of the first days of months
-  since_epoch : (m : ℕ) → 1 ≤ m → day_number (year_of day) m 1 + 4_371_953 ≡ day_count d.year m 1
+  since_epoch : (m : ℕ) → 1 ≤ m → day_number (year_of day) m 1 + before_epoch ≡ day_count d.year m 1
   since_epoch m h =
-      let start : 4_371_953 ≤ day_count (pos (year_of day)) 1 1 = day_count_after_epoch (year_of day) (omega (arith, signed_arith, low, date_year)) in
-      let later : 4_371_953 ≤ day_count (pos (year_of day)) m 1 = omega (arith, start, day_count-day_of_year (pos (year_of day)) m 1 (omega arith)) in
+      let start : before_epoch ≤ day_count (pos (year_of day)) 1 1 = day_count_after_epoch (year_of day) (omega (arith, signed_arith, low, date_year)) in
+      let later : before_epoch ≤ day_count (pos (year_of day)) m 1 = omega (arith, start, day_count-day_of_year (pos (year_of day)) m 1 (omega arith)) in
       day_number-day_count (year_of day) m 1 later ∙ ap (λ y. day_count y m 1) (sym date_year)
 
   pub date_month : d.month ≡ month_of day
@@ -99,5 +104,5 @@ module _ (d : Date) (day : ℕ) (at : epoch_day d ≡ pos day) (within : day ≤
   pub date_day : d.day ≡ day_of_month day
   unfolding day_of_month
   date_day =
-      let first : day_number (year_of day) (month_of day) 1 + 4_371_953 ≡ day_count d.year d.month 1 = ap (λ m. day_number (year_of day) m 1 + 4_371_953) (sym date_month) ∙ since_epoch d.month d.month_in.0 in
+      let first : day_number (year_of day) (month_of day) 1 + before_epoch ≡ day_count d.year d.month 1 = ap (λ m. day_number (year_of day) m 1 + before_epoch) (sym date_month) ∙ since_epoch d.month d.month_in.0 in
       omega (arith, count, place, first, d.day_in.0)

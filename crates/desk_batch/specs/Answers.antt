@@ -20,8 +20,8 @@ use Rattle.desk_batch.specs.Moments.{moment_text}
 use Rattle.desk_batch.specs.Cursors.{position_text}
 
 -- a whole number
-abbrev pub count : ℕ → Data
-count n = number (unsigned n)
+abbrev pub whole_number : ℕ → Data
+whole_number n = number (unsigned n)
 
 -- the name of a table
 abbrev pub table_name : Table → List ℕ
@@ -48,18 +48,18 @@ table_name BookingNumbers = codes "booking_numbers"
 
 -- the three numbers of a key
 abbrev pub key_data : Key → Data
-key_data key = array (items_of (count key.a ∷ count key.b ∷ count key.c ∷ []))
+key_data key = array (items_of (whole_number key.a ∷ whole_number key.b ∷ whole_number key.c ∷ []))
 
 -- a pick is the resource, or null for a leaf that is left out
 abbrev pub pick_data : Option ℕ → Data
-pick_data (Some resource) = count resource
+pick_data (Some resource) = whole_number resource
 pick_data None = null
 
 -- a row is its start, and then its picks
 abbrev pub row_data : Found → Data
 row_data row = array (items_of (string (moment_text row.start) ∷ map pick_data row.picks))
 
--- where the next page begins over the revision, or null where nothing was passed yet
+-- the cursor behind which the next page comes, over this revision, or null where there is none
 abbrev pub next_data : ℕ → Option Position → Data
 next_data revision (Some position) = string (position_text revision position)
 next_data revision None = null
@@ -73,7 +73,7 @@ abbrev pub page_object : Bool → Data → ℕ → Data → Data
 page_object end next revision rows =
     object (member (codes "end") (boolean end)
     (member (codes "next") next
-    (member (codes "revision") (count revision)
+    (member (codes "revision") (whole_number revision)
     (member (codes "rows") rows no_members))))
 
 -- a page of rows
@@ -89,7 +89,7 @@ abbrev pub unknown_data : ℕ → Key → Data
 unknown_data revision key =
     object (member (codes "key") (key_data key)
     (member (codes "refused") (string (codes "unknown"))
-    (member (codes "revision") (count revision)
+    (member (codes "revision") (whole_number revision)
     (member (codes "table") (string (table_name key.table)) no_members))))
 
 -- why a command was refused
@@ -106,9 +106,10 @@ outcome_data revision (Done reply) = reply_data revision reply
 outcome_data revision (Refused refusal) = refusal_data revision refusal
 outcome_data revision NoMemory = error_data (codes "no_memory")
 
+-- the data of an answer
 abbrev pub answer_data : Answer → Data
 answer_data answer = outcome_data answer.revision answer.outcome
 
--- the text of an answer
+-- the text of its data
 unfoldable pub answer_text : Answer → List ℕ
 answer_text answer = compact_text (answer_data answer)

@@ -21,5 +21,6 @@ picks_text picks = flat_map further_pick picks
 unfoldable pub position_text : ℕ → Position → List ℕ
 position_text revision p = decimal revision ++ codes "." ++ decimal p.start ++ picks_text p.picks
 
+-- the text of a cursor
 abbrev pub cursor_text : Cursor → List ℕ
 cursor_text c = position_text c.revision c.position

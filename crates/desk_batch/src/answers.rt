@@ -1,7 +1,7 @@
 //! The JSON text of an answer.
 ghost use Rattle.std.specs.Prelude.{◌≡◌, ◌++◌, map, IfOk, OnOk};
 ghost use Rattle.serde_json.specs.View.{view};
-ghost use Rattle.desk_batch.specs.Answers.{table_name, key_data, pick_data, row_data, next_data, page_object, page_data, reply_data, refusal_data, error_data, unknown_data, answer_data, answer_text, rows_data};
+ghost use Rattle.desk_batch.specs.Answers.{table_name, key_data, pick_data, row_data, rows_data, next_data, page_object, page_data, reply_data, unknown_data, refusal_data, error_data, answer_data, answer_text};
 
 use crate::cursors::position_text;
 use crate::moments::moment_text;
@@ -152,8 +152,8 @@ fn answer_value(alloc: Global, answer: &Answer) -> Result<Value, NoMemory>
     }
 }
 
-#[tactic(auto, unfolding(crate::specs::Answers::answer_text))]
 /// The JSON text of an answer (RFC 8259): compact, with the names of each object in the order of their bytes.
+#[tactic(auto, unfolding(crate::specs::Answers::answer_text))]
 pub fn answer_text(alloc: Global, answer: &Answer) -> Result<Bytes, NoMemory>
     ensures { IfOk result (λ text. text ≡ answer_text answer.now) }
 {

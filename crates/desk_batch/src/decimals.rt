@@ -1,6 +1,8 @@
-//! Numbers in decimal, read strictly.
-ghost use Rattle.std.specs.Prelude.{◌≡◌, ◌≢◌, ◌<◌, ◌^◌, ◌↔◌, ℕ, IsTrue, decimal, MatchOption};
-ghost use Rattle.desk_batch.specs.Decimals.{IsPadded};
+//! Numbers and ids, read strictly from their decimals.
+ghost use Rattle.std.specs.Prelude.{◌↔◌, IsTrue};
+ghost use Rattle.desk_batch.specs.Decimals.{IsPadded, ReadsNumber, ReadsId};
+
+use desk_base::Id;
 
 // A sign in front, or a zero before further digits.
 fn is_padded(text: &[u8]) -> bool
@@ -13,9 +15,9 @@ fn is_padded(text: &[u8]) -> bool
     }
 }
 
-/// The number that is written so in decimal: digits alone, no leading zero, below 2^64.
-pub fn read_decimal(text: &[u8]) -> Option<u64>
-    ensures { MatchOption result ((n : ℕ) → n < 2 ^ 64 → text.now ≢ decimal n) (λ n. text.now ≡ decimal n) }
+/// The number below 2^64 that is written so: digits alone, and no leading zero.
+pub(crate) fn read_number(text: &[u8]) -> Option<u64>
+    ensures { ReadsNumber text.now result }
 {
     if is_padded(text) {
         return None;
@@ -23,5 +25,17 @@ pub fn read_decimal(text: &[u8]) -> Option<u64>
     match std::str::from_utf8(text) {
         Ok(digits) => digits.parse::<u64>().ok(),
         Err(_) => None,
+    }
+}
+
+/// The id from 1 to 999,999,999 that is written so.
+pub(crate) fn read_id<K>(text: &[u8]) -> Option<Id<K>>
+    ensures { ReadsId text.now result }
+{
+    let number = read_number(text)?;
+    if number <= u32::MAX as u64 {
+        Id::of(number as u32)
+    } else {
+        None
     }
 }

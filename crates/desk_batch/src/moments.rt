@@ -8,8 +8,7 @@ use desk_base::{Minute, NoMemory};
 use jiff_core::civil::Date;
 use std::alloc::{AllocError, Global};
 
-/// Minutes of a day.
-const DAY: u32 = 1440;
+const MINUTES_A_DAY: u32 = 1440;
 
 fn date_on(day: u32) -> Date
     requires { day ≤ last_day }
@@ -80,9 +79,9 @@ pub fn moment_text(alloc: Global, minute: Minute) -> Result<String, NoMemory>
 {
     let minute = minute.get();
     let mut text = String::with_capacity(alloc, 17)?;
-    push_date(&mut text, minute / DAY)?;
+    push_date(&mut text, minute / MINUTES_A_DAY)?;
     text.push_str("T")?;
-    push_clock(&mut text, minute % DAY)?;
+    push_clock(&mut text, minute % MINUTES_A_DAY)?;
     text.push_str("Z")?;
     Ok(text)
 }

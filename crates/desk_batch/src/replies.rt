@@ -40,8 +40,8 @@ fn outcome_status(outcome: &Outcome) -> u16
     }
 }
 
-#[tactic(auto, unfolding(crate::specs::Replies::answer_response))]
 /// The response to a request that was answered. Statuses are those of RFC 9110, and 507 of RFC 4918 for want of memory.
+#[tactic(auto, unfolding(crate::specs::Replies::answer_response))]
 pub fn answer_response(
     alloc: Global,
     request: &Request,
@@ -69,8 +69,8 @@ fn web_text(refusal: &WebRefusal) -> &'static str
     }
 }
 
-#[tactic(auto, unfolding(crate::specs::Replies::refusal_response))]
 /// The response to a request that is no command.
+#[tactic(auto, unfolding(crate::specs::Replies::refusal_response))]
 pub fn refusal_response(
     alloc: Global,
     request: &Request,

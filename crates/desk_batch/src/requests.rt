@@ -1,9 +1,9 @@
 //! Which command a request is.
-ghost use Rattle.std.specs.Prelude.{◌≡◌, ◌≢◌, ◌≤◌, ◌++◌, ℕ, List, codes, decimal, MatchOption};
-ghost use Rattle.desk_base.specs.Limits.{id_limit};
+ghost use Rattle.std.specs.Prelude.{◌≡◌, ◌≢◌, ◌++◌, ℕ, List, codes, MatchOption};
+ghost use Rattle.desk_batch.specs.Decimals.{IsId};
 ghost use Rattle.desk_batch.specs.Requesting.{Reads, rows_target};
 
-use crate::decimals::read_decimal;
+use crate::decimals::read_id;
 use desk_base::{Command, GroupId, Query};
 use desk_wire::Request;
 
@@ -45,23 +45,10 @@ fn group_part(target: &[u8]) -> Option<&[u8]>
     before_rows(behind_groups(target)?)
 }
 
-fn read_id(text: &[u8]) -> Option<GroupId>
-    ensures { MatchOption result
-        ((id : ℕ) → 1 ≤ id → id ≤ id_limit → text.now ≢ decimal id)
-        (λ id. text.now ≡ decimal id) }
-{
-    let number = read_decimal(text)?;
-    if number <= u32::MAX as u64 {
-        GroupId::of(number as u32)
-    } else {
-        None
-    }
-}
-
 fn read_group(target: &[u8]) -> Option<GroupId>
     ensures { MatchOption result
-        ((group : ℕ) → 1 ≤ group → group ≤ id_limit → target.now ≢ rows_target group)
-        (λ group. target.now ≡ rows_target group) }
+        ((group : ℕ) → IsId group → target.now ≢ rows_target group)
+        (λ group. IsId group × (target.now ≡ rows_target group)) }
 {
     read_id(group_part(target)?)
 }

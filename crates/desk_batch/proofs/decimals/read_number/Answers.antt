@@ -1,7 +1,7 @@
 use Rattle.std.proofs.Common.{◌≡◌, true}
 use Rattle.desk_batch.specs.Decimals.{IsPadded}
 use Rattle.desk_batch.proofs.DecimalLemmas.{decimal_not_padded, decimal_is_text, parse_exact}
-use Rattle.desk_batch.proofs.decimals.read_decimal.Goals as goal
+use Rattle.desk_batch.proofs.decimals.read_number.Goals as goal
 
 pub returns-then-is_padded : goal.returns-then-is_padded
 returns-then-is_padded c = λ n small e. decimal_not_padded c.args.text.now n small e (c.is_padded.ensures.0 c.if-is_padded.true)
