@@ -1,0 +1,4 @@
+mod Dates
+mod DecimalLemmas
+mod Floats
+mod TargetLemmas

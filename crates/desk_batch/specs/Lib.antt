@@ -1,0 +1,7 @@
+-- The definitions that contracts cite, each in the module of its subject.
+pub mod Moments
+pub mod Cursors
+pub mod Answers
+pub mod Decimals
+pub mod Requesting
+pub mod Replies
