@@ -1,7 +1,22 @@
--- The definitions that contracts cite, each in the module of its subject.
+-- The definitions that contracts of this crate cite, each in the module of its subject.
+pub mod Words
+pub mod Decimals
 pub mod Moments
 pub mod Cursors
 pub mod Answers
-pub mod Decimals
 pub mod Requesting
 pub mod Replies
+pub mod Steps
+pub mod Exchanges
+pub mod Ends
+pub mod Complete
+pub mod Hearing
+pub mod Rounds
+pub mod Sessions
+pub mod Runs
+-- The words of the plain search: each is a definition of desk_base, computed.
+pub mod Sorts
+pub mod Rooms
+pub mod Parts
+pub mod Tests
+pub mod Places

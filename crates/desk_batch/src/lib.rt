@@ -1,21 +1,26 @@
-//! Requests read as commands, and answers written as responses.
+//! `desk batch`: one connection, served alone, from the bytes of a source to the bytes of a sink.
 //!
-//! `read_request` says which command a request is; `answer_response` and `refusal_response` say what is sent back, with the
-//! JSON text of an answer (`answer_text`), the text of a cursor (`cursor_text`) and the text of a moment (`moment_text`).
+//! `run` is the top call. Below it stand public modules: `capacity` and `search` say what a schedule offers, `requests` reads
+//! what is asked, `step` answers it, `answers` and `replies` write the answer, and `conversation` is the engine that holds a
+//! connection, for whoever takes the turns (`turns`).
 #![tactic(auto)]
 
-mod answers;
-mod cursors;
+pub mod answers;
+pub mod capacity;
+pub mod conversation;
+pub mod cursors;
 mod decimals;
-mod moments;
-mod replies;
-mod requests;
-
-pub use answers::answer_text;
-pub use cursors::cursor_text;
-pub use moments::moment_text;
-pub use replies::{answer_response, refusal_response};
-pub use requests::{Routed, WebRefusal, read_request};
-
+mod lookup;
+pub mod moments;
+mod program;
+pub mod replies;
+pub mod requests;
+pub mod search;
+pub mod step;
 #[cfg(test)]
 mod tests;
+pub mod turns;
+mod words;
+
+pub use program::run;
+pub use words::{Word, usage};

@@ -1,0 +1,27 @@
+-- Turns of one state, as turns of another.
+use Rattle.std.proofs.Common.{ap}
+use Rattle.desk_base.specs.declared.answers.Command.{Command as Asked}
+use Rattle.desk_base.specs.declared.answers.Answer.{Answer}
+use Rattle.desk_wire.specs.declared.rules.Request.{Request}
+use Rattle.desk_wire.specs.declared.responses.Response.{Response}
+use Rattle.desk_batch.specs.declared.requests.Routed.{Routed}
+use Rattle.desk_batch.specs.declared.requests.Routed.TheVariants.{Command, Refused}
+use Rattle.desk_batch.specs.declared.conversation.ends.Stop.{Stop}
+use Rattle.desk_batch.specs.declared.conversation.ends.Stop.TheVariants as stop
+use Rattle.desk_batch.specs.Exchanges.{TurnOf, StopOf}
+
+-- f carries each turn over commands to one of the other kind, so each exchange too
+pub turn_of : {S U : Type 0} (f : S → U) (T : S → Asked → Answer → S → Type 0) (T' : U → Asked → Answer → U → Type 0)
+    (sim : (s : S) (c : Asked) (a : Answer) (t : S) → T s c a t → T' (f s) c a (f t)) (o : Routed) (s : S) (q : Request) (r : Response) (t : S)
+    → TurnOf T o s q r t → TurnOf T' o (f s) q r (f t)
+turn_of f T T' sim (Refused why) s q r t x = (x.0, ap f x.1)
+turn_of f T T' sim (Command command) s q r t x = (x.0, sim s command x.0 t x.1, x.2)
+
+-- and each stop
+pub stop_of : {S U : Type 0} (f : S → U) (T : S → Asked → Answer → S → Type 0) (T' : U → Asked → Answer → U → Type 0)
+    (K : S → S → Type 0) (K' : U → U → Type 0) (sim : (s : S) (c : Asked) (a : Answer) (t : S) → T s c a t → T' (f s) c a (f t)) (spent : (s t : S) → K s t → K' (f s) (f t))
+    (o : Routed) (s : S) (why : Stop) (t : S) → StopOf T K o s why t → StopOf T' K' o (f s) why (f t)
+stop_of f T T' K K' sim spent (Refused why) s stop.NoMemory t x = ap f x
+stop_of f T T' K K' sim spent (Refused why) s stop.Spent t x = absurd x
+stop_of f T T' K K' sim spent (Command command) s stop.NoMemory t x = (x.0, sim s command x.0 t x.1)
+stop_of f T T' K K' sim spent (Command command) s stop.Spent t x = spent s t x

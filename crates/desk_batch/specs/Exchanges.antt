@@ -1,0 +1,32 @@
+-- What a request and its response have to do with a turn.
+use Rattle.std.specs.Prelude.{◌≡◌}
+use Rattle.desk_base.specs.declared.answers.Command.{Command as Asked}
+use Rattle.desk_base.specs.declared.answers.Answer.{Answer}
+use Rattle.desk_wire.specs.declared.rules.Request.{Request}
+use Rattle.desk_wire.specs.declared.responses.Response.{Response}
+use Rattle.desk_batch.specs.declared.requests.Routed.{Routed}
+use Rattle.desk_batch.specs.declared.requests.Routed.TheVariants.{Command, Refused}
+use Rattle.desk_batch.specs.declared.conversation.ends.Stop.{Stop}
+use Rattle.desk_batch.specs.declared.conversation.ends.Stop.TheVariants as stop
+use Rattle.desk_batch.specs.Requesting.{Reads}
+use Rattle.desk_batch.specs.Replies.{answer_response, refusal_response}
+
+-- a command has one turn, whose answer is the response; a refusal is the response, and has no turn
+abbrev pub TurnOf : {S : Type 0} (Turn : S → Asked → Answer → S → Type 0) → Routed → S → Request → Response → S → Type 0
+TurnOf Turn (Refused why) s q r t = (r ≡ refusal_response q why) × (t ≡ s)
+TurnOf Turn (Command command) s q r t = (a : Answer) × Turn s command a t × (r ≡ answer_response q a)
+
+-- the request is read, and its response given
+abbrev pub Exchanged : {S : Type 0} (Turn : S → Asked → Answer → S → Type 0) → S → Request → Response → S → Type 0
+Exchanged Turn s q r t = (routed : Routed) × Reads q routed × TurnOf Turn routed s q r t
+
+-- a turn whose response found no memory, or a request that got no turn
+abbrev pub StopOf : {S : Type 0} (Turn : S → Asked → Answer → S → Type 0) (Spent : S → S → Type 0) → Routed → S → Stop → S → Type 0
+StopOf Turn Spent (Refused why) s stop.NoMemory t = t ≡ s
+StopOf Turn Spent (Refused why) s stop.Spent t = ⊥
+StopOf Turn Spent (Command command) s stop.NoMemory t = (a : Answer) × Turn s command a t
+StopOf Turn Spent (Command command) s stop.Spent t = Spent s t
+
+-- the request is read, and has no response
+abbrev pub IsStopped : {S : Type 0} (Turn : S → Asked → Answer → S → Type 0) (Spent : S → S → Type 0) → S → Request → Stop → S → Type 0
+IsStopped Turn Spent s q why t = (routed : Routed) × Reads q routed × StopOf Turn Spent routed s why t

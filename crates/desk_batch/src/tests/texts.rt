@@ -1,0 +1,213 @@
+//! Texts byte for byte, and each public call once.
+use crate::answers::answer_text;
+use crate::cursors::cursor_text;
+use crate::moments::moment_text;
+use crate::replies::{answer_response, refusal_response};
+use crate::requests::{Routed, WebRefusal, read_request};
+use desk_base::{
+    Answer, Command, Cursor, Found, Items, Key, Minute, Outcome, Page, Picks, Position, Query,
+    Refusal, Reply, ResourceId, Table,
+};
+use desk_io::Bytes;
+use desk_wire::Request;
+use std::alloc::Global;
+use std::test::Fail;
+
+fn minute(number: u32) -> Result<Minute, Fail> {
+    Ok(Minute::of(number).ok_or("no minute of the horizon")?)
+}
+
+// 0 is a leaf that is left out.
+fn picks(alloc: Global, numbers: &[u32]) -> Result<Picks, Fail> {
+    let mut picks = Items::new(alloc);
+    for number in numbers {
+        picks.push(ResourceId::of(*number))?;
+    }
+    Ok(picks)
+}
+
+fn position(alloc: Global, start: u32, numbers: &[u32]) -> Result<Position, Fail> {
+    Ok(Position {
+        start: minute(start)?,
+        picks: picks(alloc, numbers)?,
+    })
+}
+
+fn page(
+    alloc: Global,
+    revision: u64,
+    rows: &[(u32, &[u32])],
+    next: Option<Position>,
+    end: bool,
+) -> Result<Answer, Fail> {
+    let mut founds = Items::new(alloc);
+    for (start, numbers) in rows {
+        founds.push(Found {
+            start: minute(*start)?,
+            picks: picks(alloc, numbers)?,
+        })?;
+    }
+    Ok(Answer {
+        revision,
+        outcome: Outcome::Done(Reply::Rows(Page {
+            rows: founds,
+            next,
+            end,
+        })),
+    })
+}
+
+fn unknown_group(number: u32) -> Answer {
+    Answer {
+        revision: 0,
+        outcome: Outcome::Refused(Refusal::UnknownId(Key {
+            table: Table::Group,
+            a: number,
+            b: 0,
+            c: 0,
+        })),
+    }
+}
+
+fn trial_listing(alloc: Global) -> Result<Answer, Fail> {
+    let rows: [(u32, &[u32]); 10] = [
+        (28_935_840, &[1]),
+        (28_935_840, &[2]),
+        (28_935_900, &[1]),
+        (28_935_900, &[2]),
+        (28_935_960, &[1]),
+        (28_935_960, &[2]),
+        (28_935_960, &[3]),
+        (28_936_020, &[1]),
+        (28_936_020, &[2]),
+        (28_936_020, &[3]),
+    ];
+    let next = position(alloc, 28_936_020, &[3])?;
+    page(alloc, 0, &rows, Some(next), true)
+}
+
+const LISTING: &str =
+    "{\"end\":true,\"next\":\"0.28936020.3\",\"revision\":0,\"rows\":[[\"2025-01-06T08:00Z\",1],[\"2025-01-06T08:00Z\",2],[\"2025-01-06T09:00Z\",1],[\"2025-01-06T09:00Z\",2],[\"2025-01-06T10:00Z\",1],[\"2025-01-06T10:00Z\",2],[\"2025-01-06T10:00Z\",3],[\"2025-01-06T11:00Z\",1],[\"2025-01-06T11:00Z\",2],[\"2025-01-06T11:00Z\",3]]}";
+
+#[test]
+fn moments_are_dates_and_times(rt: HostRuntime) -> Result<(), Fail> {
+    let cases = [
+        (15_778_080, "2000-01-01T00:00Z"),
+        (15_864_479, "2000-02-29T23:59Z"),
+        (16_303_680, "2000-12-31T00:00Z"),
+        (28_486_834, "2024-02-29T12:34Z"),
+        (28_935_840, "2025-01-06T08:00Z"),
+        (68_374_079, "2099-12-31T23:59Z"),
+        (68_374_080, "2100-01-01T00:00Z"),
+    ];
+    for (number, text) in cases {
+        let written = moment_text(rt.alloc(), minute(number)?)?;
+        assert_eq!(rt; written.as_str(), text);
+    }
+    Ok(())
+}
+
+#[test]
+fn answers_have_their_texts(rt: HostRuntime) -> Result<(), Fail> {
+    let alloc = rt.alloc();
+    let left_out = position(alloc, 28_935_960, &[0, 2, 3])?;
+    let no_memory = Answer {
+        revision: 7,
+        outcome: Outcome::NoMemory,
+    };
+    let cases = [
+        (trial_listing(alloc)?, LISTING),
+        (
+            page(alloc, 1, &[], None, true)?,
+            "{\"end\":true,\"next\":null,\"revision\":1,\"rows\":[]}",
+        ),
+        (
+            page(alloc, 2, &[(28_935_960, &[0, 2, 3])], Some(left_out), false)?,
+            "{\"end\":false,\"next\":\"2.28935960.-.2.3\",\"revision\":2,\"rows\":[[\"2025-01-06T10:00Z\",null,2,3]]}",
+        ),
+        (
+            unknown_group(2),
+            "{\"key\":[2,0,0],\"refused\":\"unknown\",\"revision\":0,\"table\":\"group\"}",
+        ),
+        (no_memory, "{\"error\":\"no_memory\"}"),
+    ];
+    for (answer, text) in cases {
+        let written = answer_text(alloc, &answer)?;
+        assert_eq!(rt; written.as_slice(), text.as_bytes());
+    }
+    assert_eq!(rt; LISTING.len(), 296);
+    Ok(())
+}
+
+#[test]
+fn a_cursor_has_its_text(rt: HostRuntime) -> Result<(), Fail> {
+    let cursor = Cursor {
+        revision: 0,
+        position: position(rt.alloc(), 28_935_900, &[2])?,
+    };
+    assert_eq!(rt; cursor_text(rt.alloc(), &cursor)?.as_str(), "0.28935900.2");
+    Ok(())
+}
+
+fn request(alloc: Global, method: &str, target: &str) -> Result<Request, Fail> {
+    Ok(Request {
+        method: Bytes::of(alloc, method.as_bytes())?,
+        target: Bytes::of(alloc, target.as_bytes())?,
+        version: 1,
+        close: false,
+        body: Bytes::new(alloc),
+    })
+}
+
+fn group_asked(routed: Routed) -> Option<u32> {
+    match routed {
+        Routed::Command(Command::Ask(Query::Rows { group })) => Some(group.get()),
+        Routed::Refused(WebRefusal::NotBuilt) => None,
+    }
+}
+
+#[test]
+fn requests_are_read_strictly(rt: HostRuntime) -> Result<(), Fail> {
+    let cases = [
+        ("GET", "/groups/1/rows", Some(1)),
+        ("GET", "/groups/999999999/rows", Some(999_999_999)),
+        ("GET", "/groups/1000000000/rows", None),
+        ("GET", "/groups/0/rows", None),
+        ("GET", "/groups/01/rows", None),
+        ("GET", "/groups/+1/rows", None),
+        ("GET", "/groups//rows", None),
+        ("GET", "/groups/rows", None),
+        ("GET", "/groups/1/rows/", None),
+        ("GET", "/groups/1/rows?", None),
+        ("GET", "/board", None),
+        ("POST", "/groups/1/rows", None),
+        ("HEAD", "/groups/1/rows", None),
+    ];
+    for (method, target, group) in cases {
+        let request = request(rt.alloc(), method, target)?;
+        assert_eq!(rt;
+            group_asked(read_request(&request)),
+            group,
+            "at {method} {target}"
+        );
+    }
+    Ok(())
+}
+
+#[test]
+fn responses_have_their_status_and_body(rt: HostRuntime) -> Result<(), Fail> {
+    let alloc = rt.alloc();
+    let request = request(alloc, "GET", "/groups/1/rows")?;
+    let listed = answer_response(alloc, &request, &trial_listing(alloc)?)?;
+    assert_eq!(rt; listed.status, 200);
+    assert_eq!(rt; listed.body.as_slice(), LISTING.as_bytes());
+    let unknown = answer_response(alloc, &request, &unknown_group(2))?;
+    assert_eq!(rt; unknown.status, 404);
+    let refused = refusal_response(alloc, &request, &WebRefusal::NotBuilt)?;
+    assert_eq!(rt; refused.status, 501);
+    assert_eq!(rt;
+        refused.body.as_slice(),
+        b"{\"error\":\"not_built\"}".as_slice()
+    );
+    Ok(())
+}
