@@ -19,8 +19,7 @@ use Rattle.desk_base.specs.Order.{found_cmp, position_cmp}
 use Rattle.desk_base.specs.OrderLaws.{found_total, position_total}
 use Rattle.desk_base.specs.Listing.{IsSoundGroup, IsRow, IsLive, IsListing, IsLiveList}
 use Rattle.desk_base.specs.Page.{is_full, found_of, IsAfter, ArePending, passed_of, page_of, IsPage, AreResumed, rows_of, ends, Joins}
-use Rattle.desk_base.specs.Positions.{position_at}
-use Rattle.desk_base.specs.Positions.{precedes, positions_after}
+use Rattle.desk_base.specs.Positions.{position_at, precedes, positions_after, rows_among}
 use Rattle.desk_base.proofs.Members.{IsIn, all_at, in_right, in-map, in_mapped, in-filter, in_filtered, in_from_contains, contains_from_in, sorted-map}
 use Rattle.desk_base.proofs.Orders.{not_itself, not_both, Enumerates-same}
 use Rattle.desk_base.proofs.Patterns.{length-pattern}
@@ -57,9 +56,8 @@ full_is n p h = grind (arith, nat_tests)
 is_full_from : (n : ℕ) (p : Position) → length p.picks ≡ n → is_full n p ≡ true
 is_full_from n p h = grind (arith, nat_tests)
 
--- the rows of the full ones of some positions
-abbrev pub rows_among : ℕ → List Position → List Found
-rows_among leaves ps = map found_of (filter (is_full leaves) ps)
+pub rows_among-append : (leaves : ℕ) (xs ys : List Position) → rows_among leaves (xs ++ ys) ≡ rows_among leaves xs ++ rows_among leaves ys
+rows_among-append leaves xs ys = ap (map found_of) (filter-append (is_full leaves) xs ys) ∙ map-append found_of (filter (is_full leaves) xs) (filter (is_full leaves) ys)
 
 pub full_rows : (t : Tables) (g : GroupRow) (o : Options) (ps : List Position) → IsSoundGroup g → IsLiveList t g o ps → IsListing t g o (rows_among (length g.leaves) ps)
 full_rows t g o ps s l = record {
@@ -188,9 +186,6 @@ module _ (t : Tables) (g : GroupRow) (o : Options) (ps : List Position) (live : 
   abbrev full : List Position → List Found
   full = rows_among (length g.leaves)
 
-  full-append : (xs ys : List Position) → full (xs ++ ys) ≡ full xs ++ full ys
-  full-append xs ys = ap (map found_of) (filter-append (is_full (length g.leaves)) xs ys) ∙ map-append found_of (filter (is_full (length g.leaves)) xs) (filter (is_full (length g.leaves)) ys)
-
   -- one page: its rows, and what it leaves
   record Turn (after : Option Position) (page : Page) : Type 0 where
     rest : List Position
@@ -206,7 +201,7 @@ module _ (t : Tables) (g : GroupRow) (o : Options) (ps : List Position) (live : 
       let is = page-same t g o after limit page (page_of (length g.leaves) after limit all) h (all, pending_are t g o after ps live, refl) in
       record {
         rest = split.0;
-        rows = ap full split.1 ∙ full-append here split.0 ∙ ap (λ l. l ++ full split.0) (sym (ap (λ (p : Page). p.rows) is));
+        rows = ap full split.1 ∙ rows_among-append (length g.leaves) here split.0 ∙ ap (λ l. l ++ full split.0) (sym (ap (λ (p : Page). p.rows) is));
         next = ap (λ (p : Page). positions_after p.next ps) is ∙ positions_after_next after ps here split.0 live.rising split.1;
         whole = λ e. no_more here split.0 (same_length (length here) (length all) (sym (ap (λ (p : Page). p.end) is) ∙ e) ∙ ap length split.1);
       }

@@ -4,7 +4,7 @@ ghost use Rattle.desk_base.specs.Types.{Tables, GroupRow, BookingRow, Found, Pos
 ghost use Rattle.desk_base.specs.Load.{weight, own_load, members, sort_of, pool, IsClash};
 ghost use Rattle.desk_base.specs.Listing.{IsLive, IsListing, IsLiveList};
 ghost use Rattle.desk_base.specs.Page.{IsPage, AreResumed, Joins};
-ghost use Rattle.desk_base.specs.Positions.{position_at};
+ghost use Rattle.desk_base.specs.Positions.{position_at, rows_among};
 ghost use Rattle.desk_base.specs.Sound.{IsSound};
 ghost use Rattle.desk_base.specs.Verdicts.{IsVerdict};
 ghost use Rattle.desk_base.specs.declared.rules.Verdict.{Verdict};
@@ -27,6 +27,11 @@ pub fn clashes_agree()
 /// What begins a live position is live.
 pub fn prefixes_live()
     ensures { (t : Tables) (g : GroupRow) (o : Options) (s : ℕ) (first more : List (Option ℕ)) → 1 ≤ length first → IsLive t g o (position_at s (first ++ more)) → IsLive t g o (position_at s first) }
+{}
+
+/// The rows of a search are its live positions that have a pick for each leaf.
+pub fn full_positions_are_rows()
+    ensures { (t : Tables) (g : GroupRow) (o : Options) (ps : List Position) → IsSound t → Contains t.groups g → IsLiveList t g o ps → IsListing t g o (rows_among (length g.leaves) ps) }
 {}
 
 /// A search has one listing.

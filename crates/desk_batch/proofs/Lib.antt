@@ -5,8 +5,14 @@ mod Floats
 mod TargetLemmas
 -- Why the plain search computes what the definitions say.
 pub mod Parts
-pub mod Crews
 pub mod Choices
+pub mod Crews
+pub mod Fitting
+pub mod Tests
+pub mod Asks
+pub mod Places
+pub mod Below
+pub mod Listing
 -- Conversations.
 pub mod SessionSteps
 pub mod Carried

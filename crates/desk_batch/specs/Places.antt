@@ -41,3 +41,7 @@ live_below t g o s front n = filter (is_live t g o) (map (λ q. position_at s (f
 -- the live ones that begin with these picks, have one of cs next, and at most n picks after that
 unfoldable pub live_among : Tables → GroupRow → Options → ℕ → List (Option ℕ) → ℕ → List (Option ℕ) → List Position
 live_among t g o s front n cs = filter (is_live t g o) (map (λ q. position_at s (front ++ q)) (flat_map (λ c. (c ∷ []) ∷ map (λ q. c ∷ q) (prefixes (choices t) n)) cs))
+
+-- the position of these picks and those that extend it by at most n picks, as far as they are live
+unfoldable pub live_from : Tables → GroupRow → Options → ℕ → List (Option ℕ) → ℕ → List Position
+live_from t g o s front n = filter (is_live t g o) (position_at s front ∷ []) ++ live_below t g o s front n

@@ -1,0 +1,91 @@
+//! What the standing bookings and the chosen leaves ask for.
+ghost use Rattle.std.specs.Prelude.{◌≡◌, ◌∷◌, ◌++◌, ◌≤◌, ◌<◌, ◌+◌, ◌^◌, ◌==◌, nat_le, length, map, filter, true, IfOk, OnOk};
+ghost use Rattle.std.specs.List.{list_all};
+ghost use Rattle.desk_base.specs.Limits.{end_of_minutes};
+ghost use Rattle.desk_base.specs.Load.{ask_of};
+ghost use Rattle.desk_base.specs.Picks.{choices_of};
+ghost use Rattle.desk_base.specs.Listing.{other_asks, ask_for};
+
+use desk_base::{Ask, BookingRow, GroupRow, Leaf, Minute, ResourceId, Tables, Window};
+use std::alloc::{AllocError, Global};
+
+fn ask_of(booking: &BookingRow) -> Ask
+    ensures { result ≡ ask_of booking.now }
+{
+    Ask {
+        resource: booking.resource,
+        window: Window {
+            from: booking.from,
+            to: booking.to,
+        },
+        effort: booking.effort,
+    }
+}
+
+/// The standing bookings without the group's own.
+pub fn other_asks(alloc: Global, tables: &Tables, group: &GroupRow) -> Result<Vec<Ask>, AllocError>
+    ensures { IfOk result (λ v. v.items ≡ other_asks tables.now group.now) }
+{
+    tables
+        .bookings
+        .as_slice()
+        .iter()
+        .filter(|b| b.group.get() != group.id.get())
+        .map(|b| ask_of(b))
+        .collect(alloc)
+}
+
+fn ask_for(start: Minute, leaf: &Leaf, id: ResourceId) -> Ask
+    requires { start + leaf.now.duration ≤ end_of_minutes }
+    ensures { result ≡ ask_for start (record { number = 0; leaf = leaf.now; resource = id }) }
+{
+    let end = Minute::of(start.get() + leaf.duration).unwrap();
+    Ask {
+        resource: id,
+        window: Window {
+            from: start,
+            to: end,
+        },
+        effort: leaf.effort,
+    }
+}
+
+/// Adds what each chosen leaf asks for.
+fn push_asks(
+    start: Minute,
+    number: usize,
+    leaves: &[Leaf],
+    picks: &[Option<ResourceId>],
+    asks: &mut Vec<Ask>,
+) -> Result<(), AllocError>
+    requires few { number + length leaves.now < 2 ^ 64 }
+    requires end { list_all (λ c. nat_le (start + c.leaf.duration) end_of_minutes) (choices_of number leaves.now picks.now) ≡ true }
+    ensures { OnOk result (asks.new.items ≡ asks.old.items ++ map (ask_for start) (choices_of number leaves.now picks.now)) }
+{
+    match leaves {
+        [] => Ok(()),
+        [leaf, leaves @ ..] => match picks {
+            [] => Ok(()),
+            [None, picks @ ..] => push_asks(start, number + 1, leaves, picks, asks),
+            [Some(id), picks @ ..] => {
+                asks.push(ask_for(start, leaf, *id))?;
+                push_asks(start, number + 1, leaves, picks, asks)
+            }
+        },
+    }
+}
+
+/// What the chosen leaves ask for from the start on.
+pub fn new_asks(
+    alloc: Global,
+    start: Minute,
+    leaves: &[Leaf],
+    picks: &[Option<ResourceId>],
+) -> Result<Vec<Ask>, AllocError>
+    requires end { list_all (λ c. nat_le (start + c.leaf.duration) end_of_minutes) (choices_of 0 leaves.now picks.now) ≡ true }
+    ensures { IfOk result (λ v. v.items ≡ map (ask_for start) (choices_of 0 leaves.now picks.now)) }
+{
+    let mut asks = Vec::new(alloc);
+    push_asks(start, 0, leaves, picks, &mut asks)?;
+    Ok(asks)
+}
