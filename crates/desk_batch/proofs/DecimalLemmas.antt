@@ -1,5 +1,5 @@
 -- A text without padding parses as just the number whose decimal it is.
-use Rattle.std.proofs.Common.{◌≡◌, ◌≢◌, ℕ, ◌<◌, ◌^◌, List, length, get_or, decimal, Result, Ok, Err, Option, Some, None, SomeIff,  inl, inr, sym, ap, subst, ◌∙◌, arith, IsUtf8}
+use Rattle.std.proofs.Common.{◌≡◌, ◌≢◌, ℕ, ◌<◌, ◌^◌, List, length, get_or, decimal, Result, Ok, Err, Option, Some, None, SomeIff, inl, inr, sym, ap, subst, ◌∙◌, arith, IsUtf8}
 use Rattle.std.specs.Result.{result_ok}
 use Rattle.std.specs.Str.Parse.{AllDigits, digits_value, ParsesUnsigned}
 use Rattle.std.proofs.lemmas.Str.{IsUtf8-from_ascii}
