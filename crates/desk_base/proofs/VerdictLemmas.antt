@@ -1,6 +1,6 @@
 -- Verdicts are determined: of a start and picks at most one holds.
-use Rattle.std.proofs.Common.{◌≡◌, ℕ, ◌+◌, ◌<◌, Bool, true, false, List, [], ◌∷◌, ◌++◌, take, drop, length, Option, Some, None, is_some, unwrap_or, ◌⊎◌, inl, inr, refl, sym, ap, ◌∙◌, subst, arith, length-append, take-append-drop}
-use Rattle.std.proofs.lemmas.Bool.{false≢true, true≢false, cases_order}
+use Rattle.std.proofs.Common.{◌≡◌, ℕ, ◌+◌, ◌<◌, Bool, true, List, [], ◌∷◌, ◌++◌, drop, Option, Some, None, is_some, unwrap_or, ◌⊎◌, inl, inr, refl, sym, ap, ◌∙◌, subst, arith, length-append, take-append-drop}
+use Rattle.std.proofs.lemmas.Bool.{false≢true, cases_order}
 use Rattle.std.specs.Prelude.{Contains, is_none, option_map}
 use Rattle.std.specs.List.{list_all}
 use Rattle.std.specs.Option.{option_or}
@@ -8,12 +8,12 @@ use Rattle.desk_base.specs.Types.{Tables, GroupRow}
 use Rattle.desk_base.specs.declared.rules.LeafRule.{LeafRule}
 use Rattle.desk_base.specs.declared.rules.Verdict.{Verdict}
 use Rattle.desk_base.specs.declared.rules.Verdict.TheVariants.{Feasible, OffGrid, BadShape, NotEligible, NotSame, Unfit}
-use Rattle.desk_base.specs.Trees.{Tree, tree_of, patterns, leaf_count}
+use Rattle.desk_base.specs.Trees.{Tree, tree_of, patterns}
 use Rattle.desk_base.specs.Eligible.{first_broken_at}
 use Rattle.desk_base.specs.Load.{Fits}
 use Rattle.desk_base.specs.Picks.{Choice, choices_of, pattern_of, first_broken_same}
 use Rattle.desk_base.specs.Listing.{IsOnGrid, serves, other_asks, asks_for}
-use Rattle.desk_base.specs.Verdicts.{LacksPick, Strays, IsBadShape, Unserved, first_unserved, HasShape, IsServed, IsVerdict}
+use Rattle.desk_base.specs.Verdicts.{LacksPick, Strays, IsBadShape, Unserved, first_unserved, HasShape, IsVerdict}
 use Rattle.desk_base.proofs.Members.{in_from_contains}
 use Rattle.desk_base.proofs.Patterns.{length-pattern}
 use Rattle.desk_base.proofs.Tests.{and_left, and_right}

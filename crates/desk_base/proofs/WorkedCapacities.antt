@@ -1,7 +1,7 @@
 -- What a calendar gives: day rows, breaks, times off, and a capacity above 1.
-use Rattle.std.proofs.Common.{◌≡◌, ℕ, refl, List, [], ◌∷◌, ◌++◌, map, Some, None, Option}
+use Rattle.std.proofs.Common.{◌≡◌, ℕ, refl, [], ◌∷◌, ◌++◌, map, Some, None}
 use Rattle.std.specs.Prelude.{codes}
-use Rattle.desk_base.specs.Types.{Tables, GroupRow, BookingRow, Leaf as LeafFields}
+use Rattle.desk_base.specs.Types.{Tables, GroupRow, Leaf as LeafFields}
 use Rattle.desk_base.specs.declared.group_rows.NodeKind.TheVariants.{All, Leaf}
 use Rattle.desk_base.specs.Capacity.{capacity, calendar_capacity}
 use Rattle.desk_base.specs.Eligible.{first_broken_rule}

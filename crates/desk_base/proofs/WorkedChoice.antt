@@ -1,5 +1,5 @@
 -- A choice between one leaf and two: Any of a leaf of role 1, and All of leaves of roles 2 and 3.
-use Rattle.std.proofs.Common.{rules, ◌≡◌, ℕ, refl, List, [], ◌∷◌, map, flat_map, true, false, Some, None, Option, arith}
+use Rattle.std.proofs.Common.{rules, ◌≡◌, ℕ, refl, [], ◌∷◌, map, flat_map, true, false, Some, None, arith}
 use Rattle.std.specs.Prelude.{codes}
 use Rattle.std.specs.List.Sorted.{IsStrictlySortedBy}
 use Rattle.desk_base.specs.Types.{Tables, GroupRow, Leaf as LeafFields, HasRow, NamedRow}

@@ -1,5 +1,5 @@
 -- A crew and its member, and a membership that ends.
-use Rattle.std.proofs.Common.{◌≡◌, ℕ, ◌≤◌, refl, List, [], ◌∷◌, ◌++◌, map, Some, None, Option, arith}
+use Rattle.std.proofs.Common.{◌≡◌, ℕ, ◌≤◌, refl, List, [], ◌∷◌, ◌++◌, map, Some, None, arith}
 use Rattle.desk_base.specs.Types.{Tables, GroupRow, Leaf as LeafFields, BookingRow, MemberRow}
 use Rattle.desk_base.specs.declared.group_rows.NodeKind.TheVariants.{All, Leaf}
 use Rattle.desk_base.specs.declared.group_rows.Same.TheVariants.{Crew as SameCrew}

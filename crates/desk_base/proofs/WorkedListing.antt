@@ -7,7 +7,7 @@ use Rattle.desk_base.specs.Eligible.{first_broken_rule}
 use Rattle.desk_base.specs.Load.{room, own_load, plain_load, load}
 use Rattle.desk_base.specs.Picks.{keeps_same}
 use Rattle.desk_base.specs.Order.{found_cmp}
-use Rattle.desk_base.specs.Page.{found_of, page_of}
+use Rattle.desk_base.specs.Page.{page_of}
 use Rattle.desk_base.specs.Positions.{position_at}
 use Rattle.desk_base.specs.Trial.{trial, trial_group}
 use Rattle.desk_base.proofs.WorkedParts.{monday, row, rows_at}

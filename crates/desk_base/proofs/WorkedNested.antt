@@ -1,5 +1,5 @@
 -- A part-of-same within another: All of the same unit of a leaf, and All of the same site of two leaves.
-use Rattle.std.proofs.Common.{◌≡◌, ℕ, refl, List, [], ◌∷◌, Some, None, Option}
+use Rattle.std.proofs.Common.{◌≡◌, refl, List, [], ◌∷◌, Some, None}
 use Rattle.desk_base.specs.Types.{Tables, Node, Leaf as LeafFields}
 use Rattle.desk_base.specs.declared.group_rows.NodeKind.TheVariants.{All, Leaf}
 use Rattle.desk_base.specs.declared.group_rows.Same.TheVariants.{Unit as SameUnit, Site as SameSite}

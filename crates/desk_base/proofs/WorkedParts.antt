@@ -3,7 +3,7 @@ use Rattle.std.proofs.Common.{ℕ, zero, suc, ◌+◌, ◌*◌, ◌-◌, ◌%◌
 use Rattle.std.specs.Prelude.{codes, flat_map, ◌==◌}
 use Rattle.std.specs.List.{list_all, list_any}
 use Rattle.std.specs.Option.{option_map_or}
-use Rattle.desk_base.specs.Types.{Tables, GroupRow, ResourceRow, MemberRow, Found, Ask, Node, NodeKind, Same, Kind}
+use Rattle.desk_base.specs.Types.{Tables, GroupRow, ResourceRow, MemberRow, Found, Ask, Node, NodeKind, Kind}
 use Rattle.desk_base.specs.declared.group_rows.Same.TheVariants.{None as NoSame}
 use Rattle.desk_base.specs.Time.{minutes_of}
 use Rattle.desk_base.specs.Load.{weight, room}

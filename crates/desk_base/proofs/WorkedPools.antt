@@ -1,5 +1,5 @@
 -- A pool: it has the room of its members, and what they do weighs on it.
-use Rattle.std.proofs.Common.{◌≡◌, ℕ, refl, List, [], ◌∷◌, ◌++◌, map, Some, None, Option}
+use Rattle.std.proofs.Common.{◌≡◌, ℕ, refl, List, [], ◌∷◌, ◌++◌, map, Some}
 use Rattle.desk_base.specs.Types.{Tables, Ask, BookingRow, GroupRow}
 use Rattle.desk_base.specs.declared.resource_rows.Kind.TheVariants.{Crew, Pool}
 use Rattle.desk_base.specs.Capacity.{capacity, calendar_capacity}

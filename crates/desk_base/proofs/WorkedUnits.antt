@@ -1,5 +1,5 @@
 -- Two people of one unit, out of four in two units.
-use Rattle.std.proofs.Common.{◌≡◌, ℕ, refl, List, [], ◌∷◌, ◌++◌, Some, None, Option, arith}
+use Rattle.std.proofs.Common.{◌≡◌, ℕ, refl, List, [], ◌∷◌, ◌++◌, Some, Option, arith}
 use Rattle.std.specs.Prelude.{codes}
 use Rattle.desk_base.specs.Types.{Tables, GroupRow, ResourceRow, Leaf as LeafFields}
 use Rattle.desk_base.specs.declared.group_rows.NodeKind.TheVariants.{All, Leaf}

@@ -1,5 +1,5 @@
 -- What is said of single picks of the trial group: off the grid, of no shape, not served, without room.
-use Rattle.std.proofs.Common.{◌≡◌, ℕ, ◌≤◌, List, [], ◌∷◌, Some, None, Option, true, false, refl, arith, inl, inr}
+use Rattle.std.proofs.Common.{◌≡◌, ℕ, ◌≤◌, [], ◌∷◌, Some, None, true, false, refl, arith, inl, inr}
 use Rattle.desk_base.specs.declared.rules.LeafRule.TheVariants.{Kind}
 use Rattle.desk_base.specs.declared.rules.Verdict.TheVariants.{OffGrid, BadShape, NotEligible, Unfit}
 use Rattle.desk_base.specs.Capacity.{capacity, calendar_capacity}

@@ -1,5 +1,5 @@
 -- Local times: a zone of two shifts, and both ends of the horizon.
-use Rattle.std.proofs.Common.{◌≡◌, ℕ, refl, List, [], ◌∷◌, ◌++◌, map, Some, None, Option, pos, negsuc}
+use Rattle.std.proofs.Common.{◌≡◌, refl, [], ◌∷◌, ◌++◌, map, Some, pos, negsuc}
 use Rattle.std.specs.Prelude.{codes}
 use Rattle.desk_base.specs.Types.{Tables, GroupRow}
 use Rattle.desk_base.specs.Limits.{first_minute, end_of_minutes, first_day, last_day}

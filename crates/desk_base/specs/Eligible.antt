@@ -21,7 +21,7 @@ kind_number Facility = 5
 kind_number Crew = 6
 kind_number Pool = 7
 
--- an empty list makes no demand
+-- an element passes the test, or the list is empty and makes no demand
 abbrev pub is_met : {A : Type 0} → (A → Bool) → List A → Bool
 is_met p xs = (length xs == 0) || list_any p xs
 
@@ -41,7 +41,7 @@ has_rating t r c = list_any (λ h. (h.resource == r) && (h.what == c.0) && nat_l
 abbrev pub has_territory : Tables → ℕ → ℕ → Bool
 has_territory t r y = list_any (λ h. (h.resource == r) && (h.what == y)) t.has_territories
 
--- the rules of a leaf at a resource, but for the last
+-- whether a resource keeps each rule of a leaf, in the order in which they are judged; only the rule of windows, which rests on the start, comes after them
 abbrev pub eligibility : Tables → Leaf → ResourceRow → List (Bool × LeafRule)
 eligibility t leaf x =
     (is_of_kind leaf x, Kind)
@@ -53,7 +53,7 @@ eligibility t leaf x =
     ∷ (not (list_any (λ r. r == x.id) leaf.restricted), Restricted)
     ∷ []
 
--- the first of these rules that r breaks; what is no resource is of no kind
+-- the first of these rules that r breaks; what is no resource is of no kind, and breaks the first
 unfoldable pub first_broken_rule : Tables → Leaf → ℕ → Option LeafRule
 first_broken_rule t leaf r = option_map_or (λ x. first_broken (eligibility t leaf x)) (resource_of t r) (Some Kind)
 
@@ -61,6 +61,6 @@ first_broken_rule t leaf r = option_map_or (λ x. first_broken (eligibility t le
 abbrev pub is_in_windows : GroupRow → Leaf → ℕ → Bool
 is_in_windows g leaf s = is_inside (leaf_time leaf s) (record { from = g.from; to = g.to }) && option_map_or (is_inside (leaf_time leaf s)) leaf.window true
 
--- the first rule of the leaf that r breaks at s
+-- the first rule of the leaf that r breaks at s, the rule of windows being the last
 abbrev pub first_broken_at : Tables → GroupRow → Leaf → ℕ → ℕ → Option LeafRule
 first_broken_at t g leaf s r = option_or (first_broken_rule t leaf r) (if is_in_windows g leaf s then None else Some OutsideWindow)

@@ -18,7 +18,7 @@ use Rattle.desk_base.specs.Capacity.{resource_of}
 use Rattle.desk_base.specs.Load.{LoadSort, plain, crew, pool, sort_of, sort_of_kind}
 use Rattle.desk_base.specs.Eligible.{kind_number}
 
--- the rules of one kind of row, at a row
+-- the rules of a row in the order in which they are judged: whether each holds, and the field that is named where it does not
 abbrev pub Rules : Type 0
 Rules = List (Bool × Field)
 
@@ -30,7 +30,7 @@ is_within_range low high n = nat_le low n && nat_le n high
 abbrev pub is_name : List ℕ → Bool
 is_name bytes = is_within_range 1 name_limit (length bytes) && list_all (λ b. nat_le 32 b && not (b == 127)) bytes
 
--- two ranges have a number in common
+-- two ranges, each from a number on and below another, have a number in common
 abbrev pub overlaps : ℕ → ℕ → ℕ → ℕ → Bool
 overlaps from to from' to' = nat_lt (max from from') (min to to')
 
@@ -115,11 +115,11 @@ keeps_kind t r = option_map_or (λ x. kind_number x.kind == kind_number r.kind) 
 abbrev pub resource_rules : Tables → ResourceRow → Rules
 resource_rules t r = (is_name r.name, Name) ∷ (keeps_kind t r, Kind) ∷ (same_bit (is_some r.calendar) (is_plain (sort_of_kind r.kind)), Calendar) ∷ []
 
--- a row without a rating has 0 in its place
+-- a role or a territory has no rating, and 0 in its place
 abbrev pub unrated_rules : HasRow → Rules
 unrated_rules h = (h.rating == 0, Rating) ∷ []
 
--- a rating is from 1 to 10
+-- a characteristic has a rating from 1 to 10
 abbrev pub rated_rules : HasRow → Rules
 rated_rules h = (is_within_range 1 rating_limit h.rating, Rating) ∷ []
 
@@ -141,7 +141,7 @@ member_rules t x =
 abbrev pub is_list : List ℕ → Bool
 is_list xs = nat_le (length xs) list_limit && are_distinct xs
 
--- the ranges of a leaf, and its lists
+-- the ranges of a leaf, its lists, and its own window, which is not empty
 abbrev pub leaf_rules : Leaf → Rules
 leaf_rules l =
     (is_within_range 1 duration_limit l.duration, Duration) ∷ (is_within_range 1 effort_limit l.effort, Effort)
@@ -155,7 +155,7 @@ abbrev pub join_rules : {A : Type 0} → (A → Rules) → List A → Rules
 join_rules f [] = []
 join_rules f (x ∷ xs) = f x ++ join_rules f xs
 
--- a group's own fields, then leaf by leaf
+-- a group has a name, a window of 1 minute to 90 days and a step of 5 minutes to a day; then come its leaves, one by one
 abbrev pub group_rules : GroupRow → Rules
 group_rules g =
     (is_name g.name, Name) ∷ (nat_lt g.from g.to && nat_le (g.to - g.from) window_limit, To) ∷ (is_within_range least_step minutes_a_day g.step, Step)

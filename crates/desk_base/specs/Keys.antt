@@ -5,7 +5,7 @@ use Rattle.std.specs.Ordering.{nat_cmp, ordering_then}
 use Rattle.desk_base.specs.Types.{Table, Key}
 use Rattle.desk_base.specs.declared.tables.Table.TheVariants.{Zone, Calendar, Work, Break, Day, Off, Unit, Site, Role, Characteristic, Territory, Resource, HasRole, HasCharacteristic, HasTerritory, Member, Group, Booking, Caller, BookingNumbers}
 
--- the number of a table
+-- the number of a table, by which keys are ordered first
 abbrev pub table_number : Table → ℕ
 table_number Zone = 1
 table_number Calendar = 2

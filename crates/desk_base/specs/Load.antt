@@ -7,14 +7,14 @@ use Rattle.desk_base.specs.declared.resource_rows.Kind.TheVariants.{Crew, Pool}
 use Rattle.desk_base.specs.Time.{covers, IsMinute}
 use Rattle.desk_base.specs.Capacity.{resource_of, capacity}
 
--- how a resource takes load
+-- how a resource is loaded: as a plain one, as a crew, as a pool, or, where it is unknown, not at all
 pub data LoadSort : Type 0 where
   plain : LoadSort
   crew : LoadSort
   pool : LoadSort
   unknown : LoadSort
 
--- crews and pools take load in ways of their own
+-- every kind but Crew and Pool is plain
 abbrev pub sort_of_kind : Kind → LoadSort
 sort_of_kind Crew = crew
 sort_of_kind Pool = pool
@@ -24,7 +24,7 @@ sort_of_kind _ = plain
 abbrev pub sort_of : Tables → ℕ → LoadSort
 sort_of t r = option_map_or (λ x. sort_of_kind x.kind) (resource_of t r) unknown
 
--- it takes load as a crew does
+-- it is the sort of a crew
 abbrev pub is_crew : LoadSort → Bool
 is_crew crew = true
 is_crew _ = false
@@ -33,7 +33,7 @@ is_crew _ = false
 abbrev pub members : Tables → ℕ → ℕ → List ℕ
 members t g m = map (λ x. x.member) (filter (λ x. (x.group == g) && covers x.from x.to m) t.members)
 
--- a booking on r loads r, and so does one on a crew that r is in
+-- a booking on r loads r, and so does one on a crew of which r is a member at m
 abbrev pub loads : Tables → ℕ → ℕ → ℕ → Bool
 loads t on r m = (on == r) || (is_crew (sort_of t on) && list_any (λ x. x == r) (members t on m))
 
@@ -41,15 +41,15 @@ loads t on r m = (on == r) || (is_crew (sort_of t on) && list_any (λ x. x == r)
 abbrev pub effort_at : ℕ → Ask → ℕ
 effort_at m a = if covers a.window.from a.window.to m then a.effort else 0
 
--- what a booking takes of r at m where it stands on r
+-- the effort at m of a booking that stands on r itself
 unfoldable pub own_load : ℕ → ℕ → Ask → ℕ
 own_load r m a = if a.resource == r then effort_at m a else 0
 
--- what a booking takes of a plain resource r at m
+-- the effort at m of a booking that loads the plain resource r
 unfoldable pub plain_load : Tables → ℕ → ℕ → Ask → ℕ
 plain_load t r m a = if loads t a.resource r m then effort_at m a else 0
 
--- what a booking takes of r at m, by the sort of r
+-- what a booking takes of r at m, by the sort of r: a crew bears what stands on it, and a pool also what loads its members of that minute
 abbrev pub load_by : LoadSort → Tables → ℕ → ℕ → Ask → ℕ
 load_by plain t r m a = plain_load t r m a
 load_by crew t r m a = own_load r m a
@@ -68,19 +68,19 @@ weight t asks r m = sum_by (load t r m) asks
 abbrev pub counts : Tables → ℕ → ℕ → Ask → Bool
 counts t r m a = nat_lt 0 (load t r m a)
 
--- a crew with a member has room without bound
+-- a crew without a member has no room, and with one it has room without bound
 abbrev pub room_of_crew : List ℕ → Option ℕ
 room_of_crew [] = Some 0
 room_of_crew (x ∷ xs) = None
 
--- what r has to give at m, by its sort
+-- what r has to give at m, by its sort: its own capacity, or that of its members together
 abbrev pub room_by : LoadSort → Tables → ℕ → ℕ → Option ℕ
 room_by plain t r m = Some (capacity t r m)
 room_by crew t r m = room_of_crew (members t r m)
 room_by pool t r m = Some (sum_by (λ x. capacity t x m) (members t r m))
 room_by unknown t r m = Some 0
 
--- what r has to give at m, where that is bounded
+-- what r has to give at m; `None` is room without bound
 unfoldable pub room : Tables → ℕ → ℕ → Option ℕ
 room t r m = room_by (sort_of t r) t r m
 
@@ -96,7 +96,7 @@ pub record Fits (t : Tables) (asks : List Ask) : Type 0 where
 abbrev pub ask_of : BookingRow → Ask
 ask_of b = record { resource = b.resource; window = record { from = b.from; to = b.to }; effort = b.effort }
 
--- the least booking that counts in the weight of r at m
+-- of bookings that rise by number, the least that counts in the weight of r at m
 abbrev pub shown_at : Tables → List BookingRow → ℕ → ℕ → Option ℕ
 shown_at t bookings r m = option_map (λ b. b.id) (find (λ b. counts t r m (ask_of b)) bookings)
 

@@ -59,7 +59,7 @@ keeps SameUnit t s cs = are_all_equal (map (λ c. unit_of t c.resource) cs)
 keeps SameSite t s cs = are_all_equal (map (λ c. site_of t c.resource) cs)
 keeps SameCrew t s cs = have_one_crew t s cs
 
--- how many of the nodes are leaves, up to the first that is not deeper than d
+-- how many leaf nodes there are up to the first node that is not deeper than d
 abbrev pub leaves_under : ℕ → List Node → ℕ
 leaves_under d [] = 0
 leaves_under d (n ∷ ns) = if nat_lt d n.depth then leaf_bit n + leaves_under d ns else 0
@@ -70,7 +70,7 @@ pub record Span : Type 0 where
   pub before : ℕ
   pub under : ℕ
 
--- the nodes, where this many leaves come before the first
+-- each node with its leaves, where this many leaves come before the first
 abbrev pub spans : ℕ → List Node → List Span
 spans before [] = []
 spans before (n ∷ ns) = record { node = n; before = before; under = leaves_under n.depth ns } ∷ spans (before + leaf_bit n) ns

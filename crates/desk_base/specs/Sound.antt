@@ -45,19 +45,26 @@ is_counted t = nat_le t.revision revision_limit && nat_le t.last_booking serial_
 
 -- at this key the tables keep the rule
 abbrev pub Keeps : TableRule → Tables → Key → Type 0
+-- it is above the key before it in its table
 Keeps Order t k = (before after : List Key) (j : Key) → keys_in t k.table ≡ before ++ j ∷ k ∷ after → key_cmp j k ≡ Less
+-- it is not the first past the limit of its table
 Keeps Limit t k = (before after : List Key) → keys_in t k.table ≡ before ++ k ∷ after → length before ≢ limit_of k.table
+-- its row keeps the rules of its fields and of its tree
 Keeps Field t k = (row : AnyRow) → Contains (rows_in t k.table) row → key_of row ≡ k → IsTrue (keeps_fields t row)
+-- each row that its row names is there
 Keeps Citation t k = (row : AnyRow) (c : Key) → Contains (rows_in t k.table) row → key_of row ≡ k → Contains (citations_of row) c → Contains (keys_in t c.table) c
+-- the standing bookings are within the room of its resource at each minute
 Keeps FitsRule t k = k ≡ id_key ResourceTable k.a → (m : ℕ) → IsMinute m → IsWithinRoom t (map ask_of t.bookings) k.a m
+-- its group has no booking, or is booked whole
 Keeps Booked t k = (g : GroupRow) → Contains t.groups g → id_key GroupTable g.id ≡ k → (bookings_of t g ≡ []) ⊎ IsBooked t g
+-- the counters hold, which is judged at the key 0 of bookings
 Keeps Count t k = k ≡ id_key BookingTable 0 → IsTrue (is_counted t)
 
 -- every rule is kept at every key
 pub record IsSound (t : Tables) : Type 0 where
   pub keeps : (rule : TableRule) (k : Key) → Keeps rule t k
 
--- the place of a rule
+-- the place of a rule in the order in which they are judged
 abbrev pub rule_number : TableRule → ℕ
 rule_number Order = 1
 rule_number Limit = 2

@@ -4,11 +4,13 @@ use Rattle.desk_base.specs.Types.{Node, NodeKind}
 use Rattle.desk_base.specs.declared.group_rows.NodeKind.TheVariants.{All, Any, Leaf}
 
 mutual
+  -- a leaf, or a node over trees, of which an All node needs each and an Any node one
   pub data Tree : Type 0 where
     leaf : Tree
     all : Trees → Tree
     any : Trees → Tree
 
+  -- trees beside one another
   pub data Trees : Type 0 where
     none : Trees
     tree_and : Tree → Trees → Trees
@@ -23,7 +25,7 @@ abbrev pub children : ℕ → List PlacedTree → Trees
 children d [] = none
 children d (p ∷ ps) = if nat_lt d p.depth then tree_and p.tree (children d ps) else none
 
--- what is left after these
+-- what follows those trees
 abbrev pub siblings_after : ℕ → List PlacedTree → List PlacedTree
 siblings_after d [] = []
 siblings_after d (p ∷ ps) = if nat_lt d p.depth then siblings_after d ps else p ∷ ps
@@ -57,16 +59,18 @@ abbrev pub is_leaf : NodeKind → Bool
 is_leaf Leaf = true
 is_leaf _ = false
 
--- the leaves that a node is itself
+-- 1 for a leaf node, and 0 for another
 abbrev pub leaf_bit : Node → ℕ
 leaf_bit n = if is_leaf n.kind then 1 else 0
 
 abbrev mutual
+  -- how many leaves a tree has
   pub leaf_count : Tree → ℕ
   leaf_count leaf = 1
   leaf_count (all below) = leaf_counts below
   leaf_count (any below) = leaf_counts below
 
+  -- how many leaves trees have together
   pub leaf_counts : Trees → ℕ
   leaf_counts none = 0
   leaf_counts (tree_and t ts) = leaf_count t + leaf_counts ts

@@ -13,12 +13,14 @@ pub enum Query {
 /// What is asked of the schedule.
 #[derive(Clone, Copy, Debug)]
 pub enum Command {
+    /// A question.
     Ask(Query),
 }
 
 /// What a command gave.
 #[derive(Debug, Drop)]
 pub enum Reply {
+    /// A page of a group's rows.
     Rows(Page),
 }
 
@@ -32,7 +34,9 @@ pub enum Refusal {
 /// What became of a command.
 #[derive(Debug, Drop)]
 pub enum Outcome {
+    /// The command was carried out.
     Done(Reply),
+    /// The command was refused, and nothing changed.
     Refused(Refusal),
     /// Memory was not found. Everything is as before.
     NoMemory,

@@ -4,7 +4,7 @@ use crate::ids::{CallerId, GroupId, ResourceId};
 use crate::minutes::Minute;
 use crate::serials::{BookingId, CallNumber};
 
-/// A resource that is booked for a leaf of a group.
+/// A resource that is booked for a leaf of a group. The effort is taken at each minute of the booking.
 #[derive(Clone, Copy, Debug)]
 pub struct BookingRow {
     pub id: BookingId,
@@ -19,7 +19,9 @@ pub struct BookingRow {
 /// What an accepted change gave. Effort minutes are the sum of effort times duration over the bookings made or removed.
 #[derive(Clone, Copy, Debug)]
 pub enum Receipt {
+    /// A row was added or replaced.
     Put,
+    /// A row was removed.
     Removed,
     /// The bookings `first` to `first + count - 1`.
     Booked {
@@ -27,6 +29,7 @@ pub enum Receipt {
         count: u8,
         effort_minutes: u64,
     },
+    /// So many bookings were removed.
     Cancelled {
         count: u8,
         effort_minutes: u64,

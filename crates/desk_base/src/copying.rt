@@ -13,6 +13,7 @@ use std::alloc::Global;
 
 /// A value of which an equal one can be made. Where memory is not found, nothing is made.
 pub trait Duplicate: Drop {
+    /// An equal value, which shares nothing with this one.
     fn copy(&self, alloc: Global) -> Result<Self, NoMemory>
         ensures { IfOk result (λ copy. copy ≡ self.now) };
 }

@@ -5,21 +5,28 @@ use crate::minutes::{Minute, Window};
 use crate::names::Name;
 use crate::resource_rows::Kind;
 
+/// Kinds, of which a resource is one.
 pub type Kinds = Items<Kind>;
 
+/// Roles, of which a resource has at least one.
 pub type Roles = Items<RoleId>;
 
-/// Characteristics, each with the least rating that serves.
+/// Characteristics, all of which a resource has, each with the least rating that serves.
 pub type Ratings = Items<(CharacteristicId, u8)>;
 
+/// Territories, of which a resource has at least one.
 pub type Territories = Items<TerritoryId>;
 
+/// Units, of one of which a resource is.
 pub type Units = Items<UnitId>;
 
+/// Resources by their numbers.
 pub type Resources = Items<ResourceId>;
 
+/// The nodes of a tree, in preorder.
 pub type Nodes = Items<Node>;
 
+/// The leaves of a tree, in preorder.
 pub type Leaves = Items<Leaf>;
 
 /// The number of a leaf, from 0 in preorder.
@@ -36,7 +43,8 @@ pub enum NodeKind {
     Leaf,
 }
 
-/// What the resources chosen under a node are to have in common.
+/// What the resources chosen under a node are to have in common: nothing, one unit, one site, or one crew of which each is a
+/// member throughout its own leaf's time.
 #[derive(Clone, Copy, Debug, PartialEq, Eq)]
 pub enum Same {
     None,
@@ -53,7 +61,8 @@ pub struct Node {
     pub same: Same,
 }
 
-/// What one resource is asked for: how many minutes, how much effort, and who serves. An empty list makes no demand.
+/// What one resource is asked for: a duration in minutes, an effort, and who serves. An empty list makes no demand. The effort
+/// is taken of a resource's capacity at each minute.
 #[derive(Debug, Drop)]
 pub struct Leaf {
     pub duration: u32,

@@ -92,22 +92,32 @@ impl<K> Id<K> {
     }
 }
 
+/// The number of a zone.
 pub type ZoneId = Id<ZoneMark>;
 
+/// The number of a calendar.
 pub type CalendarId = Id<CalendarMark>;
 
+/// The number of a unit.
 pub type UnitId = Id<UnitMark>;
 
+/// The number of a site.
 pub type SiteId = Id<SiteMark>;
 
+/// The number of a role.
 pub type RoleId = Id<RoleMark>;
 
+/// The number of a characteristic.
 pub type CharacteristicId = Id<CharacteristicMark>;
 
+/// The number of a territory.
 pub type TerritoryId = Id<TerritoryMark>;
 
+/// The number of a resource, crews and pools included.
 pub type ResourceId = Id<ResourceMark>;
 
+/// The number of a requirement group.
 pub type GroupId = Id<GroupMark>;
 
+/// The number of a caller.
 pub type CallerId = Id<CallerMark>;

@@ -8,6 +8,8 @@
 mod answers;
 mod booking_rows;
 mod calendar_rows;
+#[cfg(test)]
+mod cases;
 mod copying;
 mod group_rows;
 mod ids;
@@ -22,8 +24,6 @@ mod rules;
 mod searches;
 mod serials;
 mod tables;
-#[cfg(test)]
-mod tests;
 mod trial;
 
 pub use answers::{Answer, Command, Outcome, Query, Refusal, Reply};

@@ -1,27 +1,37 @@
-//! The rules that rows, trees, leaves and tables may break. Each list stands in the order in which its rules are judged.
+//! The rules that leaves, rows, trees and tables may break. Those of leaves and tables stand in the order in which they are
+//! judged, and those of a node in a tree too.
 use crate::group_rows::{LeafNo, NodeNo};
 use crate::ids::ResourceId;
 
-/// The rules of a leaf at a resource.
+/// The rules of a leaf at a resource, all but the last at any start.
 #[derive(Clone, Copy, Debug, PartialEq, Eq)]
 pub enum LeafRule {
+    /// It is of one of the kinds. What is no resource breaks this rule.
     Kind,
+    /// It has one of the roles.
     Role,
+    /// It has each of the characteristics, with the rating that is asked for or a greater one.
     Characteristic,
+    /// It has one of the territories.
     Territory,
+    /// It is of one of the units.
     Unit,
+    /// It is one of the required resources.
     Required,
+    /// It is none of the restricted resources.
     Restricted,
+    /// The leaf's time lies inside the group's window and its own.
     Window,
 }
 
 /// Whether a start and picks can be booked, or the first point that they break.
 #[derive(Clone, Copy, Debug)]
 pub enum Verdict {
+    /// They can be booked.
     Feasible,
     /// The start is not on the group's grid.
     OffGrid,
-    /// From this leaf on the picks have none of the tree's patterns.
+    /// The first leaf that lacks a pick, or with whose pick the picks begin none of the tree's patterns.
     BadShape(LeafNo),
     /// The first chosen leaf whose resource breaks a rule of it, and the first rule that it breaks.
     NotEligible(LeafNo, ResourceId, LeafRule),
@@ -31,7 +41,8 @@ pub enum Verdict {
     Unfit,
 }
 
-/// The fields of rows.
+/// The fields of rows, by which a refused row names what is out of its range. `Overlap` speaks of a range that meets another
+/// row's.
 #[derive(Clone, Copy, Debug, PartialEq, Eq)]
 pub enum Field {
     Name,
@@ -63,22 +74,35 @@ pub enum Field {
 /// The rules of a tree's nodes.
 #[derive(Clone, Copy, Debug, PartialEq, Eq)]
 pub enum TreeRule {
+    /// There is no node.
     Empty,
+    /// There are more nodes than a tree may have.
     Nodes,
+    /// A node stands where preorder has no place for its depth, or a leaf node has a part-of-same.
     Order,
+    /// A node is too deep.
     Depth,
+    /// An inner node has no child.
     Childless,
+    /// There are more leaf nodes than a tree may have, or another number of leaves than of leaf nodes.
     Leaves,
 }
 
 /// The rules of loaded tables.
 #[derive(Clone, Copy, Debug, PartialEq, Eq)]
 pub enum TableRule {
+    /// The keys of each table rise.
     Order,
+    /// No table has more rows than it may.
     Limit,
+    /// Each row keeps the rules of its fields and of its tree.
     Field,
+    /// Each row that a row names is there.
     Citation,
+    /// The standing bookings fit.
     Fits,
+    /// A group has no booking, or is booked whole.
     Booked,
+    /// The revision and the booking numbers are within their limits.
     Count,
 }

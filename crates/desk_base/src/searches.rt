@@ -9,14 +9,16 @@ pub type Picks = Items<Option<ResourceId>>;
 /// Rows of a search.
 pub type Founds = Items<Found>;
 
-/// A row of a search: a start, and a pick for each leaf.
+/// A row of a search: a start, and a pick for each leaf. Rows are ordered by start, then pick by pick, resource numbers rising
+/// and a leaf that is left out last.
 #[derive(Debug, Drop)]
 pub struct Found {
     pub start: Minute,
     pub picks: Picks,
 }
 
-/// A place of a search: a start, and a pick for each of the first leaves.
+/// A place of a search: a start, and a pick for each of the first leaves. Positions are ordered as rows are, each before its
+/// extensions.
 #[derive(Debug, Drop)]
 pub struct Position {
     pub start: Minute,
@@ -45,7 +47,7 @@ pub struct Page {
     pub end: bool,
 }
 
-/// Use of a resource in a window: a booking that stands or is to be made.
+/// Use of a resource in a window with an effort, which is taken at each minute: a booking that stands or is to be made.
 #[derive(Clone, Copy, Debug)]
 pub struct Ask {
     pub resource: ResourceId,

@@ -60,6 +60,8 @@ impl<K> Serial<K> {
     }
 }
 
+/// The number of a booking.
 pub type BookingId = Serial<BookingMark>;
 
+/// The number that a caller gives a change: one more than that of its last accepted change, or the same to ask for it again.
 pub type CallNumber = Serial<CallMark>;

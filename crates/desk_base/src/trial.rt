@@ -1,5 +1,6 @@
-//! The trial tables.
+//! The trial tables, on which a new desk is tried.
 ghost use Rattle.std.specs.Prelude.{◌≡◌, ◌∷◌, [], IfOk, Some, ◌≤◌};
+ghost use Rattle.desk_base.specs.Limits.{id_limit};
 ghost use Rattle.desk_base.specs.Trial.{trial, trial_group, trial_resource, work_on_monday, plain_leaf};
 
 use crate::calendar_rows::{CalendarRow, WorkRow, ZoneRow};
@@ -42,9 +43,9 @@ fn three<T: Drop>(alloc: Global, first: T, second: T, third: T) -> Result<Items<
 
 fn resource(alloc: Global, id: u32, text: &str, calendar: u32) -> Result<ResourceRow, NoMemory>
     requires low { 1 ≤ id }
-    requires high { id ≤ 999999999 }
+    requires high { id ≤ id_limit }
     requires low_calendar { 1 ≤ calendar }
-    requires high_calendar { calendar ≤ 999999999 }
+    requires high_calendar { calendar ≤ id_limit }
     ensures { IfOk result (λ r. r ≡ trial_resource id text.now calendar) }
 {
     Ok(ResourceRow {
@@ -59,7 +60,7 @@ fn resource(alloc: Global, id: u32, text: &str, calendar: u32) -> Result<Resourc
 
 fn work(calendar: u32, from: u16) -> WorkRow
     requires low { 1 ≤ calendar }
-    requires high { calendar ≤ 999999999 }
+    requires high { calendar ≤ id_limit }
     ensures { result ≡ work_on_monday calendar from }
 {
     WorkRow {
@@ -120,7 +121,7 @@ fn resources(alloc: Global) -> Result<Items<ResourceRow>, NoMemory>
 
 fn calendar(alloc: Global, id: u32, text: &str) -> Result<CalendarRow, NoMemory>
     requires low { 1 ≤ id }
-    requires high { id ≤ 999999999 }
+    requires high { id ≤ id_limit }
     ensures { IfOk result (λ r. r ≡ record { id = id; name = text.now; zone = 1 }) }
 {
     Ok(CalendarRow {
@@ -150,6 +151,8 @@ fn zone(alloc: Global) -> Result<ZoneRow, NoMemory>
 }
 
 impl Tables {
+    /// The trial tables: Ann and Bob work on Mondays from 08:00 to 12:00 in UTC and Cyd from 10:00, and the group Visit asks for
+    /// one of them for an hour, at a full hour of Monday 2025-01-06.
     pub fn trial(alloc: Global) -> Result<Tables, NoMemory>
         ensures { IfOk result (λ t. t ≡ trial) }
     {
