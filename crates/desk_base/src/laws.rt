@@ -6,8 +6,14 @@ ghost use Rattle.desk_base.specs.Listing.{IsLive, IsListing, IsLiveList};
 ghost use Rattle.desk_base.specs.Page.{IsPage, AreResumed, Joins};
 ghost use Rattle.desk_base.specs.Positions.{position_at, rows_among};
 ghost use Rattle.desk_base.specs.Sound.{IsSound};
+ghost use Rattle.desk_base.specs.Trial.{trial};
 ghost use Rattle.desk_base.specs.Verdicts.{IsVerdict};
 ghost use Rattle.desk_base.specs.declared.rules.Verdict.{Verdict};
+
+/// There are sound tables with a group: the trial tables.
+pub fn trial_is_sound()
+    ensures { IsSound trial }
+{}
 
 /// The weights of two lists of bookings add up.
 pub fn weights_add()
