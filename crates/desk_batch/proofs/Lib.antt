@@ -1,4 +1,6 @@
+mod CursorLemmas
 mod Dates
 mod DecimalLemmas
 mod Floats
+pub mod Reading
 mod TargetLemmas

@@ -47,7 +47,11 @@ fn push_picks(
 
 /// The text of a cursor at a position of a search over a revision.
 #[tactic(auto, unfolding(crate::specs::Cursors::position_text))]
-pub(crate) fn position_text(alloc: Global, revision: u64, position: &Position) -> Result<String, NoMemory>
+pub(crate) fn position_text(
+    alloc: Global,
+    revision: u64,
+    position: &Position,
+) -> Result<String, NoMemory>
     ensures { IfOk result (λ text. string_bytes text ≡ position_text revision position.now) }
 {
     let mut text = String::new(alloc);
