@@ -8,7 +8,7 @@ use Rattle.std.proofs.lemmas.Fmt.{decimal_injective, decimal-digits_value, parse
 use Rattle.desk_base.specs.Limits.{id_limit}
 use Rattle.desk_batch.specs.Decimals.{IsPadded, IsId, ReadsNumber, ReadsId}
 
-own : IsNumeralModel (AllDigits 10) (digits_value 10)
+pub own : IsNumeralModel (AllDigits 10) (digits_value 10)
 own = numerals_by_value (AllDigits 10) tells_digits
 
 -- no number is written with padding
@@ -37,3 +37,7 @@ id_of text n (Some id) small e h = rw h.1 (h.0, e)
 -- a number that no id has
 pub no_id_above : (text : List ℕ) (n : ℕ) → n < 2 ^ 64 → text ≡ decimal n → id_limit < n → ReadsId text None
 no_id_above text n small e above = λ id is f. let same : n ≡ id = decimal_injective n id small (omega arith) (sym e ∙ f) in omega arith
+
+-- where one number is written, no other is
+pub no_other : (text : List ℕ) (n : ℕ) → n < 2 ^ 64 → text ≡ decimal n → (IsValue : ℕ → Type 0) → ((x : ℕ) → IsValue x → x < 2 ^ 64) → ¬ (IsValue n) → (x : ℕ) → IsValue x → text ≢ decimal x
+no_other text n small e IsValue bound not x is f = let same : x ≡ n = decimal_injective x n (bound x is) small (sym f ∙ e) in not (subst IsValue same is)

@@ -1,7 +1,9 @@
--- Numbers, dates and targets as texts.
+-- Numbers, dates, cursors and targets as texts.
+mod CursorLemmas
 mod Dates
 mod DecimalLemmas
 mod Floats
+pub mod Reading
 mod TargetLemmas
 -- Why the plain search computes what the definitions say.
 pub mod Parts

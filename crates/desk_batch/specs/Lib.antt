@@ -3,6 +3,7 @@ pub mod Words
 pub mod Decimals
 pub mod Moments
 pub mod Cursors
+pub mod CursorReading
 pub mod Answers
 pub mod Requesting
 pub mod Replies

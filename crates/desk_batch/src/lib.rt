@@ -7,7 +7,10 @@
 
 pub mod answers;
 pub mod capacity;
+#[cfg(test)]
+mod cases;
 pub mod conversation;
+pub mod cursor_reading;
 pub mod cursors;
 mod decimals;
 mod lookup;
@@ -17,8 +20,6 @@ pub mod replies;
 pub mod requests;
 pub mod search;
 pub mod step;
-#[cfg(test)]
-mod tests;
 pub mod turns;
 mod words;
 
