@@ -81,6 +81,10 @@ leaf_limit = 12
 abbrev pub depth_limit : ℕ
 depth_limit = 5
 
+-- rows of one page
+abbrev pub page_limit : ℕ
+page_limit = 500
+
 -- positions that one page passes
 abbrev pub passed_limit : ℕ
 passed_limit = 4096

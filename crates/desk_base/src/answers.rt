@@ -1,17 +1,22 @@
 //! What a caller asks of a schedule, and what it is answered.
 use crate::ids::GroupId;
-use crate::searches::Page;
+use crate::rules::Field;
+use crate::searches::{Cursor, Page};
 use crate::tables::Key;
 
 /// A question, which changes nothing.
-#[derive(Clone, Copy, Debug)]
+#[derive(Debug, Drop)]
 pub enum Query {
-    /// The rows of a group.
-    Rows { group: GroupId },
+    /// A page of a group's rows: at most `limit` of them, those that come after a cursor or the first.
+    Rows {
+        group: GroupId,
+        after: Option<Cursor>,
+        limit: u32,
+    },
 }
 
 /// What is asked of the schedule.
-#[derive(Clone, Copy, Debug)]
+#[derive(Debug, Drop)]
 pub enum Command {
     /// A question.
     Ask(Query),
@@ -29,6 +34,10 @@ pub enum Reply {
 pub enum Refusal {
     /// No row stands under this key, which the command names.
     UnknownId(Key),
+    /// A field of the command is out of its range.
+    BadField(Field),
+    /// The revision that the cursor shows, and the one of the schedule now.
+    Moved(u64, u64),
 }
 
 /// What became of a command.

@@ -69,6 +69,7 @@ pub enum Field {
     Required,
     Restricted,
     Window,
+    Limit,
 }
 
 /// The rules of a tree's nodes.
