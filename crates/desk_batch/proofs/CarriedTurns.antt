@@ -1,5 +1,5 @@
 -- Turns of one state, as turns of another.
-use Rattle.std.proofs.Common.{ap}
+use Rattle.std.proofs.Common.{inl, inr, ap}
 use Rattle.desk_base.specs.declared.answers.Command.{Command as Asked}
 use Rattle.desk_base.specs.declared.answers.Answer.{Answer}
 use Rattle.desk_wire.specs.declared.rules.Request.{Request}
@@ -8,7 +8,7 @@ use Rattle.desk_batch.specs.declared.requests.Routed.{Routed}
 use Rattle.desk_batch.specs.declared.requests.Routed.TheVariants.{Command, Refused}
 use Rattle.desk_batch.specs.declared.conversation.ends.Stop.{Stop}
 use Rattle.desk_batch.specs.declared.conversation.ends.Stop.TheVariants as stop
-use Rattle.desk_batch.specs.Exchanges.{TurnOf, StopOf}
+use Rattle.desk_batch.specs.Exchanges.{TurnOf, IsStopped}
 
 -- f carries each turn over commands to one of the other kind, so each exchange too
 pub turn_of : {S U : Type 0} (f : S → U) (T : S → Asked → Answer → S → Type 0) (T' : U → Asked → Answer → U → Type 0)
@@ -20,8 +20,7 @@ turn_of f T T' sim (Command command) s q r t x = (x.0, sim s command x.0 t x.1, 
 -- and each stop
 pub stop_of : {S U : Type 0} (f : S → U) (T : S → Asked → Answer → S → Type 0) (T' : U → Asked → Answer → U → Type 0)
     (K : S → S → Type 0) (K' : U → U → Type 0) (sim : (s : S) (c : Asked) (a : Answer) (t : S) → T s c a t → T' (f s) c a (f t)) (spent : (s t : S) → K s t → K' (f s) (f t))
-    (o : Routed) (s : S) (why : Stop) (t : S) → StopOf T K o s why t → StopOf T' K' o (f s) why (f t)
-stop_of f T T' K K' sim spent (Refused why) s stop.NoMemory t x = ap f x
-stop_of f T T' K K' sim spent (Refused why) s stop.Spent t x = absurd x
-stop_of f T T' K K' sim spent (Command command) s stop.NoMemory t x = (x.0, sim s command x.0 t x.1)
-stop_of f T T' K K' sim spent (Command command) s stop.Spent t x = spent s t x
+    (s : S) (q : Request) (why : Stop) (t : S) → IsStopped T K s q why t → IsStopped T' K' (f s) q why (f t)
+stop_of f T T' K K' sim spent s q stop.NoMemory t (inl e) = inl (ap f e)
+stop_of f T T' K K' sim spent s q stop.NoMemory t (inr x) = inr (x.0, x.1, x.2, sim s x.0 x.1 t x.3)
+stop_of f T T' K K' sim spent s q stop.Spent t x = (x.0, x.1, spent s t x.2)

@@ -21,3 +21,4 @@ pub mod Carried
 pub mod CarriedTurns
 pub mod Completeness
 pub mod StepLemmas
+pub mod PagingLemmas

@@ -1,5 +1,5 @@
 -- What a request and its response have to do with a turn.
-use Rattle.std.specs.Prelude.{◌≡◌}
+use Rattle.std.specs.Prelude.{◌≡◌, ◌⊎◌}
 use Rattle.desk_base.specs.declared.answers.Command.{Command as Asked}
 use Rattle.desk_base.specs.declared.answers.Answer.{Answer}
 use Rattle.desk_wire.specs.declared.rules.Request.{Request}
@@ -20,13 +20,7 @@ TurnOf Turn (Command command) s q r t = (a : Answer) × Turn s command a t × (r
 abbrev pub Exchanged : {S : Type 0} (Turn : S → Asked → Answer → S → Type 0) → S → Request → Response → S → Type 0
 Exchanged Turn s q r t = (routed : Routed) × Reads q routed × TurnOf Turn routed s q r t
 
--- a turn whose response found no memory, or a request that got no turn
-abbrev pub StopOf : {S : Type 0} (Turn : S → Asked → Answer → S → Type 0) (Spent : S → S → Type 0) → Routed → S → Stop → S → Type 0
-StopOf Turn Spent (Refused why) s stop.NoMemory t = t ≡ s
-StopOf Turn Spent (Refused why) s stop.Spent t = ⊥
-StopOf Turn Spent (Command command) s stop.NoMemory t = (a : Answer) × Turn s command a t
-StopOf Turn Spent (Command command) s stop.Spent t = Spent s t
-
--- the request is read, and has no response
+-- a request that has no response: for want of memory nothing was done or one turn was taken, and where no turn can be drawn none was
 abbrev pub IsStopped : {S : Type 0} (Turn : S → Asked → Answer → S → Type 0) (Spent : S → S → Type 0) → S → Request → Stop → S → Type 0
-IsStopped Turn Spent s q why t = (routed : Routed) × Reads q routed × StopOf Turn Spent routed s why t
+IsStopped Turn Spent s q stop.NoMemory t = (t ≡ s) ⊎ ((command : Asked) × (a : Answer) × Reads q (Command command) × Turn s command a t)
+IsStopped Turn Spent s q stop.Spent t = (command : Asked) × Reads q (Command command) × Spent s t

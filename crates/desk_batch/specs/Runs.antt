@@ -1,5 +1,5 @@
 -- What a run of the program does with its source and its sink.
-use Rattle.std.specs.Prelude.{◌≡◌, ℕ, ◌⊎◌, List, Option}
+use Rattle.std.specs.Prelude.{◌≡◌, ℕ, ◌⊎◌, List, map, Option}
 use Rattle.std.specs.Io.KnownBytes.{Appends}
 use Rattle.desk_io.specs.Moves.{AppendsFront}
 use Rattle.desk_base.specs.declared.tables.Tables.{Tables}
@@ -9,7 +9,8 @@ use Rattle.desk_base.specs.Trial.{trial}
 use Rattle.desk_batch.specs.declared.conversation.ends.SessionEnd.{SessionEnd}
 use Rattle.desk_batch.specs.Ends.{status_of}
 use Rattle.desk_batch.specs.Exchanges.{Exchanged, IsStopped}
-use Rattle.desk_batch.specs.Sessions.{Session}
+use Rattle.desk_batch.specs.Paging.{Told, exchange_of, AreTold, PagesJoin}
+use Rattle.desk_batch.specs.Sessions.{Exchange, Session}
 use Rattle.desk_batch.specs.Steps.{IsAnswer}
 use Rattle.desk_batch.specs.Words.{usage_line}
 
@@ -26,6 +27,10 @@ abbrev pub HoldsTrial : Option (List ℕ) → Option (List ℕ) → Option (List
 HoldsTrial left left' held held' status =
     (end : SessionEnd) × (last : Tables) × (status ≡ status_of end)
     × Session (Exchanged OwnTurn) (IsStopped OwnTurn NeverSpent) left left' held held' trial last end
+
+-- the exchanges of a conversation over the trial tables are told by turns whose pages join
+abbrev pub JoinsPages : List Exchange → Type 0
+JoinsPages xs = (told : List Told) × (map exchange_of told ≡ xs) × AreTold trial told × PagesJoin trial told
 
 -- the usage line was sent, with status 2, or a front of it, with status 7
 abbrev pub SendsUsage : Option (List ℕ) → Option (List ℕ) → ℕ → Type 0

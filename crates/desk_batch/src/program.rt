@@ -4,7 +4,11 @@ ghost use Rattle.desk_io.specs.Counts.{Rose};
 ghost use Rattle.desk_wire.specs.Requests.{Requests, clean};
 ghost use Rattle.desk_wire.specs.declared.rules.Request.{Request};
 ghost use Rattle.desk_batch.specs.Ends.{status_of};
-ghost use Rattle.desk_batch.specs.Runs.{HoldsTrial, SendsUsage};
+ghost use Rattle.desk_batch.specs.Exchanges.{Exchanged};
+ghost use Rattle.desk_batch.specs.Runs.{HoldsTrial, JoinsPages, OwnTurn, SendsUsage};
+ghost use Rattle.desk_batch.specs.Sessions.{Exchange, Turns};
+ghost use Rattle.desk_base.specs.Trial.{trial};
+ghost use Rattle.desk_base.specs.declared.tables.Tables.{Tables};
 ghost use Rattle.desk_batch.specs.Words.{batch_trial};
 
 use crate::conversation::{SessionEnd, converse};
@@ -72,10 +76,15 @@ fn batch<S: Source, W: Sink>(alloc: Global, source: &mut S, sink: &mut W) -> u8
 /// Status 0: the input was read to its end at a request's border, and all is answered. 2: the words are not `batch trial`.
 /// 3: the input ended inside a request. 4: the rest is no request that is served. 5: 2^32 bytes were taken. 6: the source
 /// failed. 7: the sink failed. 10: memory was not found.
+#[tactic(auto, using(crate::proofs::PagingLemmas::joins_pages))]
 pub fn run<S: Source, W: Sink>(alloc: Global, words: &[Word], source: &mut S, sink: &mut W) -> u8
     // With `batch trial`: the requests that were taken, a turn for each over the trial tables, and the bytes that were
     // sent, by status.
     ensures conversation { words.now ≡ batch_trial → HoldsTrial (S.left source.old) (S.left source.new) (W.held sink.old) (W.held sink.new) result }
+
+    // The pages of one search in it, each resumed from the last, are together the first rows of the listing, each once and
+    // in order, and all of them where the last says that it is at the end.
+    ensures pages { (xs : List Exchange) (last : Tables) → Turns (Exchanged OwnTurn) trial xs last → JoinsPages xs }
 
     // With other words: the usage line, and the source is not read.
     ensures usage { words.now ≢ batch_trial → SendsUsage (W.held sink.old) (W.held sink.new) result }

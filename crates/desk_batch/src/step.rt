@@ -1,15 +1,17 @@
 //! One step of the one-thread scheduler: a command over a schedule, and its answer.
-ghost use Rattle.std.specs.Prelude.{◌≡◌, Contains, IfOk, OnSome, IfSome};
-ghost use Rattle.std.specs.Option.{option_copied};
+ghost use Rattle.std.specs.Prelude.{◌≡◌, Contains, option_copied};
 ghost use Rattle.desk_base.specs.Sound.{IsSound};
-ghost use Rattle.desk_batch.specs.Steps.{IsAnswer, IsOfGroup, group_of, whole_page, position_of, last_position, unknown_group};
+ghost use Rattle.desk_batch.specs.Steps.{IsAnswer, IsOfGroup, group_of, place_of, refused_cursor, refused_limit, refused_page, unknown_group};
 
-use crate::search::rows;
+use crate::search::page;
 use desk_base::{
-    Answer, Command, Duplicate, Found, Founds, GroupId, GroupRow, Key, NoMemory, Options, Outcome,
-    Page, Position, Query, Refusal, Reply, Table, Tables,
+    Answer, Command, Cursor, Field, GroupId, GroupRow, Key, Options, Outcome, Position, Query,
+    Refusal, Reply, Table, Tables,
 };
 use std::alloc::Global;
+
+/// Rows of a page, at most.
+const MOST_ROWS: u32 = 500;
 
 fn group_of(tables: &Tables, id: GroupId) -> Option<&GroupRow>
     ensures { option_copied result ≡ group_of tables.now id }
@@ -21,34 +23,47 @@ fn group_of(tables: &Tables, id: GroupId) -> Option<&GroupRow>
         .find(|g| g.id.get() == id.get())
 }
 
-/// The place of a row.
-fn position_of(alloc: Global, row: &Found) -> Result<Position, NoMemory>
-    ensures { IfOk result (λ p. p ≡ position_of row.now) }
+fn place_of(after: &Option<Cursor>) -> Option<&Position>
+    ensures { option_copied result ≡ place_of after.now }
 {
-    let Found { start, picks } = row.copy(alloc)?;
-    Ok(Position { start, picks })
-}
-
-/// The place of the last row, if there is one.
-fn last_position(alloc: Global, rows: &[Found]) -> Result<Option<Position>, NoMemory>
-    ensures { IfOk result (λ p. p ≡ last_position rows.now) }
-{
-    match rows {
-        [] => Ok(None),
-        [.., last] => Ok(Some(position_of(alloc, last)?)),
+    match after {
+        Some(cursor) => Some(&cursor.position),
+        None => None,
     }
 }
 
-/// The page that shows all rows.
-fn whole_page(alloc: Global, rows: Founds) -> Result<Page, NoMemory>
-    ensures { IfOk result (λ page. page ≡ whole_page rows) }
+fn refused_limit(limit: u32) -> Option<Refusal>
+    ensures { result ≡ refused_limit limit }
 {
-    let next = last_position(alloc, rows.as_slice())?;
-    Ok(Page {
-        rows,
-        next,
-        end: true,
-    })
+    if 1 <= limit && limit <= MOST_ROWS {
+        None
+    } else {
+        Some(Refusal::BadField(Field::Limit))
+    }
+}
+
+fn refused_cursor(now: u64, after: &Option<Cursor>) -> Option<Refusal>
+    ensures { result ≡ refused_cursor now after.now }
+{
+    match after {
+        Some(cursor) => {
+            if cursor.revision == now {
+                None
+            } else {
+                Some(Refusal::Moved(cursor.revision, now))
+            }
+        }
+        None => None,
+    }
+}
+
+fn refused_page(now: u64, after: &Option<Cursor>, limit: u32) -> Option<Refusal>
+    ensures { result ≡ refused_page now after.now limit }
+{
+    match refused_limit(limit) {
+        Some(refusal) => Some(refusal),
+        None => refused_cursor(now, after),
+    }
 }
 
 /// The refusal of a group that does not stand in the tables.
@@ -63,20 +78,26 @@ fn unknown_group(id: GroupId) -> Outcome
     }))
 }
 
-/// The rows of a group that stands in the tables.
-fn rows_of(alloc: Global, tables: &Tables, group: &GroupRow) -> Outcome
+/// A page of a group that stands in the tables.
+fn page_of_group(
+    alloc: Global,
+    tables: &Tables,
+    group: &GroupRow,
+    after: &Option<Cursor>,
+    limit: u32,
+) -> Outcome
     requires sound { IsSound tables.now }
     requires there { Contains tables.now.groups group.now }
-    ensures { IsOfGroup tables.now group.now.id (Some group.now) result }
+    ensures { IsOfGroup tables.now after.now limit group.now result }
 {
+    if let Some(refusal) = refused_page(tables.revision, after, limit) {
+        return Outcome::Refused(refusal);
+    }
     let every_start = Options {
         from: None,
         to: None,
     };
-    let Ok(rows) = rows(alloc, tables, group, &every_start) else {
-        return Outcome::NoMemory;
-    };
-    match whole_page(alloc, rows) {
+    match page(alloc, tables, group, &every_start, place_of(after), limit as u16) {
         Ok(page) => Outcome::Done(Reply::Rows(page)),
         Err(_) => Outcome::NoMemory,
     }
@@ -87,10 +108,14 @@ pub fn step(alloc: Global, tables: &Tables, command: &Command) -> Answer
     requires { IsSound tables.now }
     ensures { IsAnswer tables.now command.now result }
 {
-    let Command::Ask(Query::Rows { group: id }) = *command;
-    let outcome = match group_of(tables, id) {
-        Some(group) => rows_of(alloc, tables, group),
-        None => unknown_group(id),
+    let Command::Ask(Query::Rows {
+        group: id,
+        after,
+        limit,
+    }) = command;
+    let outcome = match group_of(tables, *id) {
+        Some(group) => page_of_group(alloc, tables, group, after, *limit),
+        None => unknown_group(*id),
     };
     Answer {
         revision: tables.revision,

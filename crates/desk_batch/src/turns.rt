@@ -91,12 +91,13 @@ impl<T: Taker> Replier for Serving<T> {
 
     fn reply(self, alloc: Global, request: &Request) -> (Self, Result<Response, Stop>) {
         let Serving { taker } = self;
-        let command = match read_request(request) {
-            Routed::Command(command) => command,
-            Routed::Refused(refusal) => {
+        let command = match read_request(alloc, request) {
+            Ok(Routed::Command(command)) => command,
+            Ok(Routed::Refused(refusal)) => {
                 let refused = refuse(alloc, request, &refusal);
                 return (Serving { taker }, refused);
             }
+            Err(_) => return (Serving { taker }, Err(Stop::NoMemory)),
         };
         let (taker, answer) = taker.take_turn(alloc, &command);
         let Some(answer) = answer else {

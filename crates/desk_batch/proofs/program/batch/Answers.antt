@@ -30,7 +30,7 @@ returns-clause-conversation g c =
       carried_from schedule _ (Exchanged OwnTurn) _ (IsStopped OwnTurn NeverSpent)
           (record {
             turn = λ s q r t x. (x.0, x.1, turn_of tables _ OwnTurn (λ u k a v y. y) x.0 s.taker q r t.taker x.2);
-            stop = λ s q why t x. (x.0, x.1, stop_of tables _ OwnTurn _ NeverSpent (λ u k a v y. y) (λ u v y. absurd y) x.0 s.taker why t.taker x.2);
+            stop = λ s q why t x. stop_of tables _ OwnTurn _ NeverSpent (λ u k a v y. y) (λ u v y. absurd y) s.taker q why t.taker x;
           })
           _ _ _ _ _ _ _ _ c.in-Ok.ensures c.converse-engine.ensures.session,
     )
