@@ -3,10 +3,9 @@
 
 use desk_batch::{Word, run};
 use desk_io::{Bytes, NoMemory, StdSink, StdSource};
-use std::env;
-use std::io;
 use std::process::ExitCode;
 use std::rt::Env;
+use std::{env, io};
 
 /// The status for want of memory.
 const NO_MEMORY: u8 = 10;

@@ -6,6 +6,8 @@ use Rattle.desk_base.specs.Types.{GroupRow, BookingRow, Tables, Ask}
 use Rattle.desk_base.specs.Load.{load, weight, room, Fits, ask_of}
 use Rattle.desk_base.specs.Listing.{other_asks}
 
+-- ---- fewer bookings
+
 -- each sum over xs is at most the same sum over ys
 abbrev pub AreFewer : List Ask → List Ask → Type 0
 AreFewer xs ys = (f : Ask → ℕ) → sum_by f xs ≤ sum_by f ys
@@ -21,6 +23,8 @@ map-cond false x xs = refl
 pub fewer_filtered : (p : BookingRow → Bool) (bs : List BookingRow) → AreFewer (map ask_of (filter p bs)) (map ask_of bs)
 fewer_filtered p [] f = omega arith
 fewer_filtered p (b ∷ bs) f = rw map-cond (fewer_step f (ask_of b) (map ask_of (filter p bs)) (map ask_of bs) (p b) (fewer_filtered p bs f))
+
+-- ---- what fits
 
 room-less : (v w : ℕ) (n : Option ℕ) → v ≤ w → IfSome n (λ k. w ≤ k) → IfSome n (λ k. v ≤ k)
 room-less v w None h k = tt

@@ -9,6 +9,8 @@ use Rattle.desk_base.specs.Trees.{Tree, Trees, leaf, all, any, none, tree_and, p
 use Rattle.desk_base.specs.Order.{pick_cmp}
 use Rattle.desk_base.proofs.Members.{IsIn, in-append, in-map, in-flat_map}
 
+-- ---- how long patterns are
+
 length-joining : (p q : List Bool) (m n : ℕ) → length p ≡ m → length q ≡ n → length (p ++ q) ≡ m + n
 length-joining p q m n e f = let a = length-append p q in omega arith
 
@@ -38,6 +40,8 @@ mutual
             let k = in-map (λ a. replicate (leaf_count t) false ++ a) p (any_patterns ts) j in
             ap length k.2 ∙ length-joining (replicate (leaf_count t) false) k.0 (leaf_count t) (leaf_counts ts) (length-replicate (leaf_count t) false) (length-one_of ts k.0 k.1)
       ]
+
+-- ---- orders of numbers and picks
 
 pub nat_cmp-same : (a : ℕ) → nat_cmp a a ≡ Equal
 nat_cmp-same a = grind (arith, nat_tests)

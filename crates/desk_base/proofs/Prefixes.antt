@@ -16,6 +16,8 @@ use Rattle.desk_base.proofs.Tests.{and_left, and_right, and_both, list_any_at, l
 use Rattle.desk_base.proofs.Places.{position_none}
 use Rattle.desk_base.proofs.Fewer.{AreFewer, Fits-fewer}
 
+-- ---- what is chosen first
+
 -- what the first picks choose comes first
 choices_prefix : (i : ℕ) (ls : List Leaf) (ps qs : List (Option ℕ)) → (rest : List Choice) × (choices_of i ls (ps ++ qs) ≡ choices_of i ls ps ++ rest)
 choices_prefix i [] ps qs = ([], refl)
@@ -45,6 +47,8 @@ keeps_prefix SameUnit t s xs ys e = equal_prefix (map (λ c. unit_of t c.resourc
 keeps_prefix SameSite t s xs ys e = equal_prefix (map (λ c. site_of t c.resource) xs) (map (λ c. site_of t c.resource) ys) (sym (ap are_all_equal (map-append (λ (c : Choice). site_of t c.resource) xs ys)) ∙ e)
 keeps_prefix SameCrew t s xs ys e = crew_prefix t s xs ys e
 
+-- ---- parts-of-same
+
 drop_prefix : (n : ℕ) (ps qs : List (Option ℕ)) → (rest : List (Option ℕ)) × (drop n (ps ++ qs) ≡ drop n ps ++ rest)
 drop_prefix zero ps qs = (qs, refl)
 drop_prefix (suc n) [] qs = (drop (suc n) qs, refl)
@@ -69,6 +73,8 @@ same_prefix : (t : Tables) (s : ℕ) (ns : List Node) (ls : List Leaf) (ps qs : 
 same_prefix t s ns ls ps qs e =
     position_none (λ x. not (keeps_same t s ls (ps ++ qs) x)) (λ x. not (keeps_same t s ls ps x))
     (λ x f. not_true (keeps_same t s ls ps x) (kept_prefix t s ls ps qs x (not_false (keeps_same t s ls (ps ++ qs) x) f))) (spans 0 ns) e
+
+-- ---- live positions
 
 fewer_new : (others xs ys : List Ask) → AreFewer (others ++ xs) (others ++ (xs ++ ys))
 fewer_new others xs ys f =

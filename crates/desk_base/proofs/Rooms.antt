@@ -10,6 +10,8 @@ use Rattle.desk_base.specs.Load.{LoadSort, plain, crew, pool, unknown, sort_of, 
 use Rattle.desk_base.proofs.Members.{IsIn}
 use Rattle.desk_base.proofs.Tests.{sum_by_none}
 
+-- ---- outside of their windows bookings weigh nothing
+
 nothing-cond : (b : Bool) → ◌≡◌ {A = ℕ} (cond b 0 0) 0
 nothing-cond true = refl
 nothing-cond false = refl
@@ -45,6 +47,8 @@ pub weight-quiet : (t : Tables) (others new : List Ask) (r m : ℕ) → AreOutsi
 weight-quiet t others new r m h =
     let e = sum_by-append (load t r m) others new in
     let z = sum_by_none (load t r m) new (λ a i. load-outside t r m a (h a i)) in omega arith
+
+-- ---- what is no resource
 
 -- nothing stands on what is no resource
 pub unknown_fits : (t : Tables) (asks : List Ask) (r m : ℕ) → resource_of t r ≡ None → IsWithinRoom t asks r m

@@ -6,6 +6,8 @@ use Rattle.std.specs.Prelude.{find, sum_by}
 use Rattle.std.specs.List.{list_all, list_any, range_with_len}
 use Rattle.desk_base.proofs.Members.{IsIn}
 
+-- ---- tests joined by `&&`
+
 pub and_left : (a b : Bool) → (a && b) ≡ true → a ≡ true
 and_left true b e = refl
 and_left false b e = e
@@ -21,6 +23,8 @@ and_both false b e f = e
 pub and-false : (a : Bool) → (a && false) ≡ false
 and-false true = refl
 and-false false = refl
+
+-- ---- all and some elements of a list
 
 pub list_all_at : {A : Type 0} (p : A → Bool) (xs : List A) (x : A) → list_all p xs ≡ true → IsIn x xs → p x ≡ true
 list_all_at p [] x e i = absurd i
@@ -58,7 +62,8 @@ list_any_from {A} p (y ∷ ys) x i e = step (p y) refl i (λ j. list_any_from p 
     step false k (inl q) h = absurd (false≢true (sym k ∙ sym (ap p q) ∙ e))
     step false k (inr j) h = h j
 
--- what `find` gives
+-- ---- what `find` gives
+
 find_step : {A : Type 0} (p : A → Bool) (y : A) (ys : List A) (b : Bool) → p y ≡ b → (find p ys ≡ None) ⊎ ((x : A) × IsIn x ys × (p x ≡ true) × (find p ys ≡ Some x)) → (cond b (Some y) (find p ys) ≡ None) ⊎ ((x : A) × IsIn x (y ∷ ys) × (p x ≡ true) × (cond b (Some y) (find p ys) ≡ Some x))
 find_step p y ys true e h = inr (y, inl refl, e, refl)
 find_step p y ys false e (inl n) = inl n
@@ -67,6 +72,8 @@ find_step p y ys false e (inr (x, i, t, f)) = inr (x, inr i, t, f)
 pub find_cases : {A : Type 0} (p : A → Bool) (xs : List A) → (find p xs ≡ None) ⊎ ((x : A) × IsIn x xs × (p x ≡ true) × (find p xs ≡ Some x))
 find_cases p [] = inl refl
 find_cases p (y ∷ ys) = find_step p y ys (p y) refl (find_cases p ys)
+
+-- ---- ranges and sums
 
 pub in_range : (m a n : ℕ) → a ≤ m → m < a + n → IsIn m (range_with_len a n)
 in_range m a zero h k = absurd (omega arith)

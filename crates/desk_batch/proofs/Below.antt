@@ -1,5 +1,5 @@
 -- The live positions below some picks, and those that start before a minute.
-use Rattle.std.proofs.Common.{◌≡◌, ℕ, zero, suc, ◌+◌, ◌-◌, ◌<◌, ◌≤◌, true, false, cond, List, [], ◌∷◌, ◌++◌, map, filter, length, take, get_or, Option, inl, refl, sym, ap, ◌∙◌, subst, arith, append_assoc}
+use Rattle.std.proofs.Common.{◌≡◌, ℕ, zero, suc, ◌+◌, ◌-◌, ◌<◌, ◌≤◌, Bool, true, false, cond, List, [], ◌∷◌, ◌++◌, map, filter, length, take, get_or, Option, inl, refl, sym, ap, ◌∙◌, subst, arith, append_assoc}
 use Rattle.std.proofs.lemmas.Bool.{false≢true}
 use Rattle.std.proofs.lemmas.Grind.{flat_map-append}
 use Rattle.std.proofs.lemmas.List.{append-nil, map-append, take_more, take_all}
@@ -51,10 +51,16 @@ module _ (t : Tables) (g : GroupRow) (o : Options) (s : ℕ) (front : List (Opti
   unfolding live_from
   live_from-dead n fits inside some e = ap (λ b. cond b (position_at s front ∷ []) [] ++ live_below t g o s front n) e ∙ dead_below n fits inside some e
 
-  -- after rs and the position itself
-  pub from_here : (n : ℕ) (rs us vs : List Position) → is_live t g o (position_at s front) ≡ true → us ≡ rs ++ position_at s front ∷ [] → vs ≡ us ++ live_below t g o s front n → vs ≡ rs ++ live_from t g o s front n
-  from_here n rs us vs e a b =
-      b ∙ ap (λ l. l ++ live_below t g o s front n) a ∙ append_assoc rs (position_at s front ∷ []) (live_below t g o s front n) ∙ ap (λ l. rs ++ l) (sym (live_from-live n e))
+  -- a test by b of the picks q, which are these
+  pub tested : (b c : Bool) (q : List (Option ℕ)) → q ≡ front → b ≡ is_live t g o (position_at s q) → b ≡ c → is_live t g o (position_at s front) ≡ c
+  tested b c q e f h = ap (λ q. is_live t g o (position_at s q)) (sym e) ∙ sym f ∙ h
+
+  -- after rs and the position itself, made of the picks q, which are these
+  pub from_here : (n : ℕ) (q : List (Option ℕ)) (p : Position) (rs us vs : List Position) → is_live t g o (position_at s front) ≡ true → q ≡ front → p ≡ position_at s q
+      → us ≡ rs ++ p ∷ [] → vs ≡ us ++ live_below t g o s front n → vs ≡ rs ++ live_from t g o s front n
+  from_here n q p rs us vs e f h a b =
+      b ∙ ap (λ l. l ++ live_below t g o s front n) (a ∙ ap (λ p. rs ++ p ∷ []) (h ∙ ap (position_at s) f))
+      ∙ append_assoc rs (position_at s front ∷ []) (live_below t g o s front n) ∙ ap (λ l. rs ++ l) (sym (live_from-live n e))
 
   pub none_from : (n : ℕ) (rs : List Position) → Fits t (other_asks t g) → IsInHorizon g → 1 ≤ length front → is_live t g o (position_at s front) ≡ false → rs ≡ rs ++ live_from t g o s front n
   none_from n rs fits inside some e = sym (append-nil rs) ∙ ap (λ l. rs ++ l) (sym (live_from-dead n fits inside some e))

@@ -1,11 +1,9 @@
 -- Whether bookings fit, looked at in the minutes of the new ones alone.
-use Rattle.std.proofs.Common.{◌≡◌, ℕ, ◌-◌, ◌<◌, ◌≤◌, Bool, true, false, cond, List, ◌++◌, Option, Some, None, inl, inr, refl, sym, ap, ◌∙◌, subst, arith, ◌==◌}
+use Rattle.std.proofs.Common.{◌≡◌, ℕ, ◌-◌, ◌<◌, ◌≤◌, true, List, ◌++◌, Option, Some, None, inl, inr, refl, sym, subst, arith, ◌==◌}
 use Rattle.std.proofs.lemmas.Bool.Decides.{nat_tests}
-use Rattle.std.proofs.lemmas.List.Sums.{sum_by-append}
 use Rattle.std.specs.Prelude.{IfSome}
 use Rattle.std.specs.Bool.{Decides}
 use Rattle.std.specs.List.{list_all}
-use Rattle.std.specs.Option.{option_map_or}
 use Rattle.desk_base.specs.declared.tables.Tables.{Tables}
 use Rattle.desk_base.specs.declared.resource_rows.ResourceRow.{ResourceRow}
 use Rattle.desk_base.specs.declared.searches.Ask.{Ask}
@@ -14,7 +12,7 @@ use Rattle.desk_base.specs.Load.{weight, room, IsWithinRoom, Fits}
 use Rattle.desk_batch.specs.Rooms.{is_within_room, has_room_at, have_room_at, have_room_during, have_room}
 use Rattle.desk_base.proofs.Rooms.{weight-quiet, unknown_fits}
 use Rattle.desk_base.proofs.Members.{IsIn}
-use Rattle.desk_base.proofs.Tests.{list_all_at, list_all_from, some_or_none, find_cases, in_range, from_range, sum_by_none}
+use Rattle.desk_base.proofs.Tests.{list_all_at, list_all_from, some_or_none, find_cases, in_range, from_range}
 
 within_room_decides : (w : ℕ) (n : Option ℕ) → Decides (is_within_room w n) (IfSome n (λ k. w ≤ k))
 within_room_decides w None = (λ _. tt, λ _. refl)

@@ -1,5 +1,5 @@
 -- What stands between a front and a back is found by cutting both off.
-use Rattle.std.proofs.Common.{◌≡◌, ◌≢◌, ℕ, ◌<◌, ◌≤◌, ◌^◌, List, ◌++◌, decimal, Option, Some, None, MatchOption, SomeIff, Bor, sym, ap, ◌∙◌, arith}
+use Rattle.std.proofs.Common.{◌≡◌, ◌≢◌, ℕ, List, ◌++◌, decimal, Option, Some, None, MatchOption, Bor, sym, ap, ◌∙◌}
 use Rattle.std.proofs.lemmas.List.{append_cancel_left, append_cancel_right, append_assoc}
 use Rattle.desk_batch.specs.Decimals.{IsId, ReadsId}
 

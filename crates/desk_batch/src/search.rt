@@ -18,6 +18,7 @@ mod load;
 mod members;
 mod pages;
 mod patterns;
+mod positions;
 mod rooms;
 mod same;
 mod starts;

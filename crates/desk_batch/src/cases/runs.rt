@@ -8,6 +8,7 @@ use std::process::Abort;
 use std::test::Fail;
 
 /// A run of the program, and what it must answer.
+#[derive(Clone, Copy)]
 struct Case {
     name: &'static str,
     words: &'static [&'static str],

@@ -185,7 +185,7 @@ fn request(alloc: Global, method: &str, target: &str) -> Result<Request, Fail> {
     })
 }
 
-fn group_asked(routed: Routed) -> Option<u32> {
+fn group_asked(routed: &Routed) -> Option<u32> {
     match routed {
         Routed::Command(Command::Ask(Query::Rows { group })) => Some(group.get()),
         Routed::Refused(WebRefusal::NotBuilt) => None,
@@ -212,7 +212,7 @@ fn requests_are_read_strictly(rt: HostRuntime) -> Result<(), Fail> {
     for (method, target, group) in cases {
         let request = request(rt.alloc(), method, target)?;
         assert_eq!(rt;
-            group_asked(read_request(&request)),
+            group_asked(&read_request(&request)),
             group,
             "at {method} {target}"
         );

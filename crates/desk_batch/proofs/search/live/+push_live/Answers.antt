@@ -1,11 +1,9 @@
-use Rattle.std.proofs.Common.{◌≡◌, ◌<◌, ◌≤◌, ◌-◌, ◌++◌, ◌∷◌, [], false, length, refl, sym, ap, ◌∙◌, arith}
+use Rattle.std.proofs.Common.{◌<◌, ◌≤◌, ◌-◌, ◌++◌, ◌∷◌, [], true, false, length, refl, ap, ◌∙◌, arith}
 use Rattle.std.proofs.lemmas.Grind.{common_steps}
-use Rattle.desk_base.specs.Positions.{position_at}
 use Rattle.desk_base.proofs.Fewer.{Fits-others}
 use Rattle.desk_base.proofs.Shapes.{sound_group, few_bookings, few_leaves, few_nodes_of}
 use Rattle.desk_base.proofs.Sounds.{bookings_fit}
-use Rattle.desk_batch.specs.Tests.{is_live}
-use Rattle.desk_batch.proofs.Below.{from_here, none_from, none_below, no_choice, next_choice, all_choices}
+use Rattle.desk_batch.proofs.Below.{tested, from_here, none_from, none_below, no_choice, next_choice, all_choices}
 use Rattle.desk_batch.proofs.search.live.+push_live.Goals as goal
 
 pub push_below-returns-then-more-eq0-clause-out : goal.push_below-returns-then-more-eq0-clause-out
@@ -43,11 +41,10 @@ push_from-is_live-requires-clause-few_nodes t c = omega (arith, few_nodes_of c.a
 
 pub push_from-returns-then-not-live-clause-out : goal.push_from-returns-then-not-live-clause-out
 push_from-returns-then-not-live-clause-out t c =
-    let dead = ap (λ q. is_live c.args.tables.now c.args.group.now c.args.options.now (position_at c.args.start q)) (sym c.as_slice.ensures.value) ∙ sym c.in_ok-live.ensures ∙ c.if-not-live.true in
+    let dead = tested _ _ _ _ _ c.in_ok-live.live false c.as_slice.result.now c.as_slice.ensures.value c.in_ok-live.ensures c.if-not-live.true in
     none_from _ _ _ _ _ c.args.more c.args.out.now.items (Fits-others c.args.tables.now c.args.group.now (bookings_fit c.args.tables.now c.requires.sound)) (omega arith, omega arith) c.requires.some dead
 
 pub push_from-returns-clause-out : goal.push_from-returns-clause-out
 push_from-returns-clause-out t c =
-    let live = ap (λ q. is_live c.args.tables.now c.args.group.now c.args.options.now (position_at c.args.start q)) (sym c.as_slice.ensures.value) ∙ sym c.in_ok-live.ensures ∙ c.if-not-live.false in
-    from_here _ _ _ _ _ c.args.more c.args.out.now.items c.push.new.self.items c.push_below.new.out.items live
-    (c.in_ok-push.ensures.items ∙ ap (λ p. c.args.out.now.items ++ p ∷ []) (c.in_ok-position_at.ensures ∙ ap (position_at c.args.start) c.as_slice-2.ensures.value)) c.in_ok-push_below.ensures.out
+    let live = tested _ _ _ _ _ c.in_ok-live.live true c.as_slice.result.now c.as_slice.ensures.value c.in_ok-live.ensures c.if-not-live.false in
+    from_here _ _ _ _ _ c.args.more c.as_slice-2.result.now c.in_ok-position_at.field-0 c.args.out.now.items c.push.new.self.items c.push_below.new.out.items live c.as_slice-2.ensures.value c.in_ok-position_at.ensures c.in_ok-push.ensures.items c.in_ok-push_below.ensures.out
