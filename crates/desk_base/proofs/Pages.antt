@@ -124,7 +124,7 @@ positions_after_suffix : (after : Option Position) (ps : List Position) → IsSt
 positions_after_suffix None ps s = ([], refl)
 positions_after_suffix (Some a) ps s = after_suffix a ps s
 
-last_of : (o : Option Position) (h : Position) (hs : List Position) → (front : List Position) × (x : Position) × (h ∷ hs ≡ front ++ x ∷ []) × (last_or o (h ∷ hs) ≡ Some x)
+pub last_of : (o : Option Position) (h : Position) (hs : List Position) → (front : List Position) × (x : Position) × (h ∷ hs ≡ front ++ x ∷ []) × (last_or o (h ∷ hs) ≡ Some x)
 last_of o h [] = ([], h, refl, refl)
 last_of o h (k ∷ ks) = let r = last_of (Some h) k ks in (h ∷ r.0, r.1, ap (λ l. h ∷ l) r.2, r.3)
 

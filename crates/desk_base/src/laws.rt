@@ -1,9 +1,9 @@
 //! Laws of the definitions: each is the contract of a function that does nothing.
-ghost use Rattle.std.specs.Prelude.{◌≡◌, ◌+◌, ◌++◌, ◌≤◌, ℕ, List, Option, None, length, sum_by, Contains};
+ghost use Rattle.std.specs.Prelude.{◌≡◌, ◌+◌, ◌++◌, ◌≤◌, ℕ, List, Option, Some, None, false, length, sum_by, Contains};
 ghost use Rattle.desk_base.specs.Types.{Tables, GroupRow, BookingRow, Found, Position, Options, Ask, Page};
 ghost use Rattle.desk_base.specs.Load.{weight, own_load, members, sort_of, pool, IsClash};
-ghost use Rattle.desk_base.specs.Listing.{IsLive, IsListing, IsLiveList};
-ghost use Rattle.desk_base.specs.Page.{IsPage, AreResumed, Joins};
+ghost use Rattle.desk_base.specs.Listing.{IsLive, IsRow, IsListing, IsLiveList};
+ghost use Rattle.desk_base.specs.Page.{found_of, IsAfter, IsPage, AreResumed, Joins};
 ghost use Rattle.desk_base.specs.Positions.{position_at, rows_among};
 ghost use Rattle.desk_base.specs.Sound.{IsSound};
 ghost use Rattle.desk_base.specs.Trial.{trial};
@@ -38,6 +38,17 @@ pub fn prefixes_live()
 /// The rows of a search are its live positions that have a pick for each leaf.
 pub fn full_positions_are_rows()
     ensures { (t : Tables) (g : GroupRow) (o : Options) (ps : List Position) → IsSound t → Contains t.groups g → IsLiveList t g o ps → IsListing t g o (rows_among (length g.leaves) ps) }
+{}
+
+/// A live position with a pick for each leaf is a row of the search.
+pub fn full_position_is_row()
+    ensures { (t : Tables) (g : GroupRow) (o : Options) (p : Position) → IsSound t → Contains t.groups g → IsLive t g o p → length p.picks ≡ length g.leaves → IsRow t g o (found_of p) }
+{}
+
+/// A page that is not at its end has passed a live position, and goes on after it.
+pub fn page_passes()
+    ensures { (t : Tables) (g : GroupRow) (o : Options) (after : Option Position) (limit : ℕ) (page : Page) → 1 ≤ limit → IsPage t g o after limit page → page.end ≡ false
+        → (p : Position) × IsLive t g o p × IsAfter after p × (page.next ≡ Some p) }
 {}
 
 /// A search has one listing.

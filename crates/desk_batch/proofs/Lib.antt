@@ -21,4 +21,4 @@ pub mod Carried
 pub mod CarriedTurns
 pub mod Completeness
 pub mod StepLemmas
-pub mod PagingLemmas
+pub mod ShownLemmas

@@ -14,7 +14,7 @@ pub mod Complete
 pub mod Hearing
 pub mod Rounds
 pub mod Sessions
-pub mod Paging
+pub mod Shown
 pub mod Runs
 -- The words of the plain search: each is a definition of desk_base, computed.
 pub mod Sorts

@@ -9,7 +9,7 @@ use Rattle.desk_base.specs.Trial.{trial}
 use Rattle.desk_batch.specs.declared.conversation.ends.SessionEnd.{SessionEnd}
 use Rattle.desk_batch.specs.Ends.{status_of}
 use Rattle.desk_batch.specs.Exchanges.{Exchanged, IsStopped}
-use Rattle.desk_batch.specs.Paging.{Told, exchange_of, AreTold, PagesJoin}
+use Rattle.desk_batch.specs.Shown.{Told, exchange_of, AreTold, PagesJoin}
 use Rattle.desk_batch.specs.Sessions.{Exchange, Session}
 use Rattle.desk_batch.specs.Steps.{IsAnswer}
 use Rattle.desk_batch.specs.Words.{usage_line}

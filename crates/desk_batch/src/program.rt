@@ -76,7 +76,7 @@ fn batch<S: Source, W: Sink>(alloc: Global, source: &mut S, sink: &mut W) -> u8
 /// Status 0: the input was read to its end at a request's border, and all is answered. 2: the words are not `batch trial`.
 /// 3: the input ended inside a request. 4: the rest is no request that is served. 5: 2^32 bytes were taken. 6: the source
 /// failed. 7: the sink failed. 10: memory was not found.
-#[tactic(auto, using(crate::proofs::PagingLemmas::joins_pages))]
+#[tactic(auto, using(crate::proofs::ShownLemmas::joins_pages))]
 pub fn run<S: Source, W: Sink>(alloc: Global, words: &[Word], source: &mut S, sink: &mut W) -> u8
     // With `batch trial`: the requests that were taken, a turn for each over the trial tables, and the bytes that were
     // sent, by status.

@@ -15,7 +15,7 @@ use Rattle.desk_wire.specs.declared.responses.Response.{Response}
 use Rattle.desk_batch.specs.declared.requests.Routed.{Routed}
 use Rattle.desk_batch.specs.declared.requests.Routed.TheVariants.{Command, Refused}
 use Rattle.desk_batch.specs.Exchanges.{Exchanged, TurnOf}
-use Rattle.desk_batch.specs.Paging.{Taken, Told, exchange_of, IsTold, AreTold, ShowsPage, ShowPages}
+use Rattle.desk_batch.specs.Shown.{Taken, Told, exchange_of, IsTold, AreTold, ShowsPage, ShowPages}
 use Rattle.desk_batch.specs.Requesting.{Reads}
 use Rattle.desk_batch.specs.Runs.{OwnTurn, JoinsPages}
 use Rattle.desk_batch.specs.Sessions.{Exchange, Turns}
