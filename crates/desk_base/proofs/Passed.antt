@@ -1,5 +1,5 @@
 -- A page that is not at its end has passed a live position, and goes on after it.
-use Rattle.std.proofs.Common.{◌≡◌, ℕ, zero, suc, ◌≤◌, false, [], ◌∷◌, ◌++◌, length, Option, Some, inl, refl, sym, ap, ◌∙◌, subst, arith, if◌then◌else◌}
+use Rattle.std.proofs.Common.{◌≡◌, ℕ, zero, suc, ◌≤◌, false, [], ◌∷◌, length, Option, Some, inl, refl, sym, ap, ◌∙◌, subst, arith, if◌then◌else◌}
 use Rattle.std.proofs.lemmas.Bool.{false≢true}
 use Rattle.desk_base.specs.Types.{Tables, GroupRow, Position, Options, Page}
 use Rattle.desk_base.specs.Limits.{passed_limit}

@@ -1,5 +1,5 @@
 -- The pages that a conversation shows of one search join.
-use Rattle.std.proofs.Common.{◌≡◌, ℕ, ◌≤◌, List, [], ◌∷◌, map, Option, Some, None, inl, inr, refl, ap, ◌∙◌, subst}
+use Rattle.std.proofs.Common.{◌≡◌, ◌==◌, ℕ, ◌≤◌, List, [], ◌∷◌, map, Option, Some, None, inl, inr, refl, ap, ◌∙◌, subst}
 use Rattle.desk_base.specs.Page.{IsPage, AreResumed}
 use Rattle.desk_base.specs.Trial.{trial}
 use Rattle.desk_base.specs.declared.tables.Tables.{Tables}
@@ -65,6 +65,6 @@ joins_pages xs last h =
       told.1,
       told.2,
       λ id g listing pages found is shows.
-      pages_join trial g anywhere pages listing (sound_group trial g trial_sound (contains_found _ trial.groups g found)) is
+      pages_join trial g anywhere pages listing (sound_group trial g trial_sound (contains_found (λ (x : GroupRow). x.id == id) trial.groups g found)) is
       (resumed trial id g found None told.0 pages told.2 shows),
     )
