@@ -1,25 +1,22 @@
 -- A text is a cursor's text exactly where its pieces between points are the cursor's pieces.
-use Rattle.std.proofs.Common.{◌≡◌, ℕ, ◌<◌, ◌≤◌, ◌^◌, Bool, false, ◌==◌, List, [], ◌∷◌, ◌++◌, map, length, get_or, decimal, All, Option, Some, None, Result, Ok, Err, IsErrAnd, Bor, refl, sym, ap, subst, ◌∙◌, arith}
-use Rattle.std.specs.List.{slice_split, join_with_byte}
-use Rattle.std.proofs.lemmas.Bool.{ne_eqb}
-use Rattle.std.proofs.lemmas.List.{append_assoc, get_or_default, append-nil, get_or-map, length-map}
+use Rattle.std.proofs.Common.{◌≡◌, ◌≢◌, ℕ, ◌<◌, ◌≤◌, ◌^◌, Bool, false, ◌==◌, List, [], ◌∷◌, ◌++◌, map, length, get_or, decimal, All, Option, Some, None, Result, Ok, Err, IsErrAnd, Bor, refl, sym, ap, subst, ◌∙◌, inl, arith}
+use Rattle.std.specs.List.{slice_split}
+use Rattle.std.proofs.lemmas.List.{append_assoc, append-nil, get_or-map, length-map}
 use Rattle.std.proofs.lemmas.List.Elements.{All-cons, All-head, All-tail}
-use Rattle.std.proofs.lemmas.List.Splits.{slice_split_none, slice_split_at, join_with_byte-slice_split}
-use Rattle.std.proofs.lemmas.Str.Parse.{not_in_digits}
-use Rattle.std.proofs.lemmas.Fmt.{digits_decimal}
+use Rattle.std.proofs.lemmas.List.Splits.{slice_split_none, slice_split_at}
 use Rattle.desk_base.specs.Limits.{revision_limit}
 use Rattle.desk_base.specs.declared.searches.Cursor.{Cursor}
 use Rattle.desk_batch.specs.Cursors.{pick_text, picks_text, position_text, cursor_text}
 use Rattle.desk_batch.specs.declared.cursor_reading.CursorError.{CursorError}
 use Rattle.desk_batch.specs.declared.cursor_reading.CursorError.TheVariants.{BadCursor, NoMemory}
 use Rattle.desk_batch.specs.CursorReading.{IsPick, ArePicks, IsMoment, IsCursor, IsReading, cursor_pieces}
-use Rattle.desk_batch.proofs.DecimalLemmas.{own}
+use Rattle.desk_batch.proofs.PieceLemmas.{decimal_lacks, same_pieces}
 
-abbrev is_point : ℕ → Bool
+abbrev pub is_point : ℕ → Bool
 is_point b = b == 46
 
 no_point_in_decimal : (n : ℕ) → n < 2 ^ 64 → All (λ b. is_point b ≡ false) (decimal n)
-no_point_in_decimal n small = λ k d within. ne_eqb (get_or (decimal n) k d) 46 (λ e. not_in_digits own (decimal n) 46 (digits_decimal own n small) (λ r. omega (arith, r)) k within (get_or_default (decimal n) k 0 d within ∙ e))
+no_point_in_decimal n small = decimal_lacks 46 n small (inl (omega arith))
 
 no_point_in_pick : (pick : Option ℕ) → IsPick pick → All (λ b. is_point b ≡ false) (pick_text pick)
 no_point_in_pick (Some resource) is = no_point_in_decimal resource (omega (arith, is))
@@ -39,10 +36,6 @@ pieces_of_cursor c is =
     ap (slice_split is_point) whole
     ∙ slice_split_at is_point (decimal c.revision) 46 (decimal c.position.start ++ picks_text c.position.picks) (no_point_in_decimal c.revision small) refl
     ∙ ap (λ pieces. decimal c.revision ∷ pieces) (pieces_of_picks (decimal c.position.start) c.position.picks (no_point_in_decimal c.position.start (omega (arith, is.start))) is.picks.each)
-
--- texts with the same pieces are the same
-pub same_pieces : (text other : List ℕ) → slice_split is_point text ≡ slice_split is_point other → text ≡ other
-same_pieces text other e = sym (join_with_byte-slice_split 46 text) ∙ ap (join_with_byte 46) e ∙ join_with_byte-slice_split 46 other
 
 no_such_piece : (e : CursorError) (pieces : List (List ℕ)) (i : ℕ) → i < length pieces → IsReading IsPick pick_text (get_or pieces i []) (Err e) → IsReading (All IsPick) (map pick_text) pieces (Err e)
 no_such_piece BadCursor pieces i within h = λ picks each f.
@@ -72,6 +65,6 @@ bad_picks NoMemory revision start picks h = tt
 
 -- what the pieces read as is what the text reads as
 pub whole_reading : (text : List ℕ) (r : Result Cursor CursorError) → IsReading IsCursor cursor_pieces (slice_split is_point text) r → IsReading IsCursor cursor_text text r
-whole_reading text (Ok c) h = (h.0, same_pieces text (cursor_text c) (h.1 ∙ sym (pieces_of_cursor c h.0)))
+whole_reading text (Ok c) h = (h.0, same_pieces 46 text (cursor_text c) (h.1 ∙ sym (pieces_of_cursor c h.0)))
 whole_reading text (Err BadCursor) h = λ c is f. h c is (ap (slice_split is_point) f ∙ pieces_of_cursor c is)
 whole_reading text (Err NoMemory) h = tt

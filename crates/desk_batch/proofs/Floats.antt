@@ -8,7 +8,7 @@ use Rattle.desk_base.specs.declared.answers.Answer.{Answer}
 use Rattle.desk_base.specs.declared.answers.Outcome.{Outcome}
 use Rattle.desk_base.specs.declared.answers.Outcome.TheVariants.{Done, Refused, NoMemory}
 use Rattle.desk_base.specs.declared.answers.Reply.TheVariants.{Rows}
-use Rattle.desk_base.specs.declared.answers.Refusal.TheVariants.{UnknownId}
+use Rattle.desk_base.specs.declared.answers.Refusal.TheVariants.{UnknownId, BadField, Moved}
 use Rattle.desk_batch.specs.Answers.{pick_data, row_data, next_data, outcome_data, answer_data}
 
 picks_have_none : (picks : List (Option ℕ)) → items_have_float (items_of (map pick_data picks)) ≡ false
@@ -27,6 +27,8 @@ next_has_none revision None = refl
 outcome_has_none : (revision : ℕ) (outcome : Outcome) → has_float (outcome_data revision outcome) ≡ false
 outcome_has_none revision (Done (Rows page)) = rw (next_has_none revision page.next, rows_have_none page.rows) refl
 outcome_has_none revision (Refused (UnknownId key)) = refl
+outcome_has_none revision (Refused (BadField field)) = refl
+outcome_has_none revision (Refused (Moved shown now)) = refl
 outcome_has_none revision NoMemory = refl
 
 pub answer_has_none : (answer : Answer) → has_float (answer_data answer) ≡ false

@@ -1,8 +1,11 @@
 -- Numbers, dates, cursors and targets as texts.
 mod CursorLemmas
+mod CursorTexts
 mod Dates
 mod DecimalLemmas
 mod Floats
+mod PagingLemmas
+mod PieceLemmas
 pub mod Reading
 mod TargetLemmas
 -- Why the plain search computes what the definitions say.

@@ -65,6 +65,6 @@ joins_pages xs last h =
       told.1,
       told.2,
       λ id g listing pages found is shows.
-      pages_join trial g anywhere pages listing (sound_group trial g trial_sound (contains_found (λ (x : GroupRow). x.id == id) trial.groups g found)) is
-      (resumed trial id g found None told.0 pages told.2 shows),
+          pages_join trial g anywhere pages listing (sound_group trial g trial_sound (contains_found (λ (x : GroupRow). x.id == id) trial.groups g found)) is
+          (resumed trial id g found None told.0 pages told.2 shows),
     )

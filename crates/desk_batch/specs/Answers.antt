@@ -9,13 +9,15 @@ use Rattle.desk_base.specs.declared.searches.Found.{Found}
 use Rattle.desk_base.specs.declared.searches.Position.{Position}
 use Rattle.desk_base.specs.declared.searches.Page.{Page}
 use Rattle.desk_base.specs.declared.tables.Table.TheVariants.{Zone, Calendar, Work, Break, Day, Off, Unit, Site, Role, Characteristic, Territory, Resource, HasRole, HasCharacteristic, HasTerritory, Member, Group, Booking, Caller, BookingNumbers}
+use Rattle.desk_base.specs.declared.rules.Field.{Field}
+use Rattle.desk_base.specs.declared.rules.Field.TheVariants as field
 use Rattle.desk_base.specs.declared.answers.Answer.{Answer}
 use Rattle.desk_base.specs.declared.answers.Outcome.{Outcome}
 use Rattle.desk_base.specs.declared.answers.Outcome.TheVariants.{Done, Refused, NoMemory}
 use Rattle.desk_base.specs.declared.answers.Reply.{Reply}
 use Rattle.desk_base.specs.declared.answers.Reply.TheVariants.{Rows}
 use Rattle.desk_base.specs.declared.answers.Refusal.{Refusal}
-use Rattle.desk_base.specs.declared.answers.Refusal.TheVariants.{UnknownId}
+use Rattle.desk_base.specs.declared.answers.Refusal.TheVariants.{UnknownId, BadField, Moved}
 use Rattle.desk_batch.specs.Moments.{moment_text}
 use Rattle.desk_batch.specs.Cursors.{position_text}
 
@@ -45,6 +47,34 @@ table_name Group = codes "group"
 table_name Booking = codes "booking"
 table_name Caller = codes "caller"
 table_name BookingNumbers = codes "booking_numbers"
+
+-- the name of a field
+abbrev pub field_name : Field → List ℕ
+field_name field.Name = codes "name"
+field_name field.Shifts = codes "shifts"
+field_name field.Weekday = codes "weekday"
+field_name field.To = codes "to"
+field_name field.Capacity = codes "capacity"
+field_name field.Overlap = codes "overlap"
+field_name field.Day = codes "day"
+field_name field.Id = codes "id"
+field_name field.Kind = codes "kind"
+field_name field.Calendar = codes "calendar"
+field_name field.Rating = codes "rating"
+field_name field.Group = codes "group"
+field_name field.Member = codes "member"
+field_name field.Step = codes "step"
+field_name field.Duration = codes "duration"
+field_name field.Effort = codes "effort"
+field_name field.Kinds = codes "kinds"
+field_name field.Roles = codes "roles"
+field_name field.Characteristics = codes "characteristics"
+field_name field.Territories = codes "territories"
+field_name field.Units = codes "units"
+field_name field.Required = codes "required"
+field_name field.Restricted = codes "restricted"
+field_name field.Window = codes "window"
+field_name field.Limit = codes "limit"
 
 -- the three numbers of a key
 abbrev pub key_data : Key → Data
@@ -92,9 +122,26 @@ unknown_data revision key =
     (member (codes "revision") (whole_number revision)
     (member (codes "table") (string (table_name key.table)) no_members))))
 
+-- a field of the command is out of its range
+abbrev pub bad_field_data : ℕ → Field → Data
+bad_field_data revision field =
+    object (member (codes "field") (string (field_name field))
+    (member (codes "refused") (string (codes "bad_field"))
+    (member (codes "revision") (whole_number revision) no_members)))
+
+-- the schedule is at another revision than the one that the cursor shows
+abbrev pub moved_data : ℕ → ℕ → ℕ → Data
+moved_data revision shown now =
+    object (member (codes "now") (whole_number now)
+    (member (codes "refused") (string (codes "moved"))
+    (member (codes "revision") (whole_number revision)
+    (member (codes "shown") (whole_number shown) no_members))))
+
 -- why a command was refused
 abbrev pub refusal_data : ℕ → Refusal → Data
 refusal_data revision (UnknownId key) = unknown_data revision key
+refusal_data revision (BadField field) = bad_field_data revision field
+refusal_data revision (Moved shown now) = moved_data revision shown now
 
 -- an object with an error's name alone
 abbrev pub error_data : List ℕ → Data

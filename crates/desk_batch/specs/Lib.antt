@@ -5,7 +5,9 @@ pub mod Moments
 pub mod Cursors
 pub mod CursorReading
 pub mod Answers
+pub mod Paging
 pub mod Requesting
+pub mod RequestReading
 pub mod Replies
 pub mod Steps
 pub mod Exchanges

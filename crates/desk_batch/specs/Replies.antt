@@ -4,7 +4,7 @@ use Rattle.desk_base.specs.declared.answers.Answer.{Answer}
 use Rattle.desk_base.specs.declared.answers.Outcome.{Outcome}
 use Rattle.desk_base.specs.declared.answers.Outcome.TheVariants.{Done, Refused, NoMemory}
 use Rattle.desk_base.specs.declared.answers.Refusal.{Refusal}
-use Rattle.desk_base.specs.declared.answers.Refusal.TheVariants.{UnknownId}
+use Rattle.desk_base.specs.declared.answers.Refusal.TheVariants.{UnknownId, BadField, Moved}
 use Rattle.desk_wire.specs.declared.rules.Request.{Request}
 use Rattle.desk_wire.specs.declared.responses.Response.{Response}
 use Rattle.desk_wire.specs.declared.responses.BodyKind.TheVariants.{Json}
@@ -17,9 +17,11 @@ abbrev pub json_response : Request → ℕ → List ℕ → Response
 json_response request status body =
     record { status = status; kind = Json; allow = None; close = request.close; bare = false; body = body }
 
--- the status of a refusal: what is not there is not found
+-- the status of a refusal: what is not there is not found, a value out of its range is not processed, and what has moved conflicts
 abbrev pub refusal_status : Refusal → ℕ
 refusal_status (UnknownId key) = 404
+refusal_status (BadField field) = 422
+refusal_status (Moved shown now) = 409
 
 -- the status of an outcome
 abbrev pub outcome_status : Outcome → ℕ

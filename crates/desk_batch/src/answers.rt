@@ -1,12 +1,12 @@
 //! The JSON text of an answer.
 ghost use Rattle.std.specs.Prelude.{◌≡◌, ◌++◌, map, IfOk, OnOk};
 ghost use Rattle.serde_json.specs.View.{view};
-ghost use Rattle.desk_batch.specs.Answers.{table_name, key_data, pick_data, row_data, rows_data, next_data, page_object, page_data, reply_data, unknown_data, refusal_data, error_data, answer_data, answer_text};
+ghost use Rattle.desk_batch.specs.Answers.{table_name, field_name, key_data, pick_data, row_data, rows_data, next_data, page_object, page_data, reply_data, unknown_data, bad_field_data, moved_data, refusal_data, error_data, answer_data, answer_text};
 
 use crate::cursors::position_text;
 use crate::moments::moment_text;
 use desk_base::{
-    Answer, Found, Key, NoMemory, Outcome, Page, Position, Refusal, Reply, ResourceId, Table,
+    Answer, Field, Found, Key, NoMemory, Outcome, Page, Position, Refusal, Reply, ResourceId, Table,
 };
 use desk_io::Bytes;
 use serde_json::{Value, json, push};
@@ -36,6 +36,38 @@ fn table_name(table: Table) -> &'static str
         Table::Booking => "booking",
         Table::Caller => "caller",
         Table::BookingNumbers => "booking_numbers",
+    }
+}
+
+fn field_name(field: Field) -> &'static str
+    ensures { result.now ≡ field_name field }
+{
+    match field {
+        Field::Name => "name",
+        Field::Shifts => "shifts",
+        Field::Weekday => "weekday",
+        Field::To => "to",
+        Field::Capacity => "capacity",
+        Field::Overlap => "overlap",
+        Field::Day => "day",
+        Field::Id => "id",
+        Field::Kind => "kind",
+        Field::Calendar => "calendar",
+        Field::Rating => "rating",
+        Field::Group => "group",
+        Field::Member => "member",
+        Field::Step => "step",
+        Field::Duration => "duration",
+        Field::Effort => "effort",
+        Field::Kinds => "kinds",
+        Field::Roles => "roles",
+        Field::Characteristics => "characteristics",
+        Field::Territories => "territories",
+        Field::Units => "units",
+        Field::Required => "required",
+        Field::Restricted => "restricted",
+        Field::Window => "window",
+        Field::Limit => "limit",
     }
 }
 
@@ -120,6 +152,19 @@ fn unknown_value(alloc: Global, revision: u64, key: &Key) -> Result<Value, Alloc
     json!(in alloc; {"key": numbers, "refused": "unknown", "revision": revision, "table": name})
 }
 
+fn bad_field_value(alloc: Global, revision: u64, field: Field) -> Result<Value, AllocError>
+    ensures { IfOk result (λ value. view value ≡ bad_field_data revision field) }
+{
+    let name = field_name(field);
+    json!(in alloc; {"field": name, "refused": "bad_field", "revision": revision})
+}
+
+fn moved_value(alloc: Global, revision: u64, shown: u64, now: u64) -> Result<Value, AllocError>
+    ensures { IfOk result (λ value. view value ≡ moved_data revision shown now) }
+{
+    json!(in alloc; {"now": now, "refused": "moved", "revision": revision, "shown": shown})
+}
+
 fn error_value(alloc: Global, name: &str) -> Result<Value, AllocError>
     ensures { IfOk result (λ value. view value ≡ error_data name.now) }
 {
@@ -139,6 +184,8 @@ fn refusal_value(alloc: Global, revision: u64, refusal: &Refusal) -> Result<Valu
 {
     match refusal {
         Refusal::UnknownId(key) => Ok(unknown_value(alloc, revision, key)?),
+        Refusal::BadField(field) => Ok(bad_field_value(alloc, revision, *field)?),
+        Refusal::Moved(shown, now) => Ok(moved_value(alloc, revision, *shown, *now)?),
     }
 }
 

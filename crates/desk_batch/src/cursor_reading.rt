@@ -1,11 +1,11 @@
 //! A cursor read from its text.
-ghost use Rattle.std.specs.Prelude.{◌≡◌, ◌≤◌, ◌==◌, ℕ, map, decimal, All, IfOk};
-ghost use Rattle.std.specs.List.{slice_split};
+ghost use Rattle.std.specs.Prelude.{◌≡◌, ◌≤◌, map, decimal, All};
 ghost use Rattle.desk_base.specs.Limits.{revision_limit};
 ghost use Rattle.desk_batch.specs.Cursors.{pick_text, cursor_text};
 ghost use Rattle.desk_batch.specs.CursorReading.{IsMoment, IsPick, ArePicks, IsCursor, IsReading, cursor_pieces};
 
 use crate::decimals::{read_id, read_number};
+use crate::pieces::pieces_of;
 use desk_base::{Cursor, Items, Minute, NoMemory, Picks, Position, ResourceId};
 use std::alloc::{AllocError, Global};
 
@@ -120,17 +120,11 @@ fn read_pieces(alloc: Global, pieces: &[&[u8]]) -> Result<Cursor, CursorError>
     })
 }
 
-fn pieces_of<'a>(alloc: Global, text: &'a [u8]) -> Result<Vec<&'a [u8]>, AllocError>
-    ensures { IfOk result (λ pieces. map (λ piece. piece.now) pieces.items ≡ slice_split (λ b. b == 46) text.now) }
-{
-    text.split(|b| *b == b'.').collect(alloc)
-}
-
 /// The cursor that is written so: the revision up to 10^15, the start as a minute of the horizon or its end, and 1 to 12
 /// picks, each `-` or an id. No number has a leading zero.
 pub fn read_cursor(alloc: Global, text: &[u8]) -> Result<Cursor, CursorError>
     ensures { IsReading IsCursor cursor_text text.now result }
 {
-    let pieces = pieces_of(alloc, text)?;
+    let pieces = pieces_of(alloc, text, b'.')?;
     read_pieces(alloc, pieces.as_slice())
 }

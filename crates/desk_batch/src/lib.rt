@@ -15,6 +15,8 @@ pub mod cursors;
 mod decimals;
 mod lookup;
 pub mod moments;
+mod paging;
+mod pieces;
 mod program;
 pub mod replies;
 pub mod requests;

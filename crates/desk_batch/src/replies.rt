@@ -27,6 +27,8 @@ fn refusal_status(refusal: &Refusal) -> u16
 {
     match refusal {
         Refusal::UnknownId(_) => 404,
+        Refusal::BadField(_) => 422,
+        Refusal::Moved(_, _) => 409,
     }
 }
 

@@ -97,7 +97,14 @@ fn page_of_group(
         from: None,
         to: None,
     };
-    match page(alloc, tables, group, &every_start, place_of(after), limit as u16) {
+    match page(
+        alloc,
+        tables,
+        group,
+        &every_start,
+        place_of(after),
+        limit as u16,
+    ) {
         Ok(page) => Outcome::Done(Reply::Rows(page)),
         Err(_) => Outcome::NoMemory,
     }
@@ -108,11 +115,13 @@ pub fn step(alloc: Global, tables: &Tables, command: &Command) -> Answer
     requires { IsSound tables.now }
     ensures { IsAnswer tables.now command.now result }
 {
-    let Command::Ask(Query::Rows {
-        group: id,
-        after,
-        limit,
-    }) = command;
+    let Command::Ask(
+        Query::Rows {
+            group: id,
+            after,
+            limit,
+        },
+    ) = command;
     let outcome = match group_of(tables, *id) {
         Some(group) => page_of_group(alloc, tables, group, after, *limit),
         None => unknown_group(*id),

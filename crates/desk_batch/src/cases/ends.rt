@@ -86,9 +86,6 @@ fn faults_leave_what_was_answered(rt: HostRuntime) -> Result<(), Fail> {
     gives(&rt, alloc, later, input.as_slice(), 40, 6, LISTING)?;
     let no_room = Setting { room: 40, ..TRIAL };
     gives(&rt, alloc, no_room, ROWS, 4096, 7, b"")?;
-    let one = Setting {
-        room: 400,
-        ..TRIAL
-    };
+    let one = Setting { room: 400, ..TRIAL };
     gives(&rt, alloc, one, input.as_slice(), 4096, 7, LISTING)
 }

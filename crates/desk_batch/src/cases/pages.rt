@@ -14,7 +14,15 @@ fn shows(
 ) -> Result<(), Fail> {
     let input = format!(in alloc; "GET /groups/1/rows{query} HTTP/1.1\r\n\r\n")?;
     let output = response(alloc, status, body)?;
-    gives(rt, alloc, TRIAL, input.as_bytes(), 4096, 0, output.as_bytes())
+    gives(
+        rt,
+        alloc,
+        TRIAL,
+        input.as_bytes(),
+        4096,
+        0,
+        output.as_bytes(),
+    )
 }
 
 const FIRST_FOUR: &str =
@@ -87,7 +95,9 @@ fn ten_pages_of_one_row(rt: HostRuntime) -> Result<(), Fail> {
     let mut query = format!(in alloc; "?limit=1")?;
     for (i, (clock, minute, resource)) in rows.iter().enumerate() {
         let end = i == 9;
-        let body = format!(in alloc; "{{\"end\":{end},\"next\":\"0.{minute}.{resource}\",\"revision\":0,\"rows\":[[\"2025-01-06T{clock}Z\",{resource}]]}}")?;
+        let body = format!(in alloc;
+            "{{\"end\":{end},\"next\":\"0.{minute}.{resource}\",\"revision\":0,\"rows\":[[\"2025-01-06T{clock}Z\",{resource}]]}}"
+        )?;
         shows(&rt, alloc, query.as_str(), "200 OK", body.as_str())?;
         query = format!(in alloc; "?limit=1&after=0.{minute}.{resource}")?;
     }

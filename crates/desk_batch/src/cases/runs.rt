@@ -27,9 +27,9 @@ pub const TRIAL: Setting = Setting {
 /// The response of a status line and a JSON body, in which the conversation goes on.
 pub fn response(alloc: Global, status: &str, body: &str) -> Result<String, Fail> {
     let length = body.len();
-    Ok(
-        format!(in alloc; "HTTP/1.1 {status}\r\ncontent-type: application/json\r\ncontent-length: {length}\r\n\r\n{body}")?,
-    )
+    Ok(format!(in alloc;
+        "HTTP/1.1 {status}\r\ncontent-type: application/json\r\ncontent-length: {length}\r\n\r\n{body}"
+    )?)
 }
 
 /// Runs the program, with at most so many bytes a call of the source, and compares its status and output.
@@ -84,8 +84,12 @@ fn two_requests_have_two_responses(rt: HostRuntime) -> Result<(), Fail> {
 
 #[test]
 fn other_words_print_the_usage_line(rt: HostRuntime) -> Result<(), Fail> {
-    let cases: [&'static [&'static str]; 4] =
-        [&[], &["batch"], &["batch", "empty"], &["batch", "trial", "x"]];
+    let cases: [&'static [&'static str]; 4] = [
+        &[],
+        &["batch"],
+        &["batch", "empty"],
+        &["batch", "trial", "x"],
+    ];
     for words in cases {
         let setting = Setting { words, ..TRIAL };
         gives(&rt, rt.alloc(), setting, ROWS, 4096, 2, USAGE)?;

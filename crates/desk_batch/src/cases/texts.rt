@@ -6,8 +6,8 @@ use crate::moments::moment_text;
 use crate::replies::{answer_response, refusal_response};
 use crate::requests::{Routed, WebRefusal, read_request};
 use desk_base::{
-    Answer, Command, Found, Items, Key, Minute, Outcome, Page, Picks, Position, Query, Refusal,
-    Reply, ResourceId, Table,
+    Answer, Command, Cursor, Field, Found, Items, Key, Minute, Outcome, Page, Picks, Position,
+    Query, Refusal, Reply, ResourceId, Table,
 };
 use desk_io::Bytes;
 use desk_wire::Request;
@@ -58,16 +58,21 @@ fn page(
     })
 }
 
-fn unknown_group(number: u32) -> Answer {
+fn refused(revision: u64, refusal: Refusal) -> Answer {
     Answer {
-        revision: 0,
-        outcome: Outcome::Refused(Refusal::UnknownId(Key {
-            table: Table::Group,
-            a: number,
-            b: 0,
-            c: 0,
-        })),
+        revision,
+        outcome: Outcome::Refused(refusal),
     }
+}
+
+fn unknown_group(number: u32) -> Answer {
+    let key = Key {
+        table: Table::Group,
+        a: number,
+        b: 0,
+        c: 0,
+    };
+    refused(0, Refusal::UnknownId(key))
 }
 
 fn trial_listing(alloc: Global) -> Result<Answer, Fail> {
@@ -130,6 +135,14 @@ fn answers_have_their_texts(rt: HostRuntime) -> Result<(), Fail> {
             unknown_group(2),
             "{\"key\":[2,0,0],\"refused\":\"unknown\",\"revision\":0,\"table\":\"group\"}",
         ),
+        (
+            refused(0, Refusal::BadField(Field::Limit)),
+            "{\"field\":\"limit\",\"refused\":\"bad_field\",\"revision\":0}",
+        ),
+        (
+            refused(2, Refusal::Moved(0, 2)),
+            "{\"now\":2,\"refused\":\"moved\",\"revision\":2,\"shown\":0}",
+        ),
         (no_memory, "{\"error\":\"no_memory\"}"),
     ];
     for (answer, text) in cases {
@@ -185,35 +198,89 @@ fn request(alloc: Global, method: &str, target: &str) -> Result<Request, Fail> {
     })
 }
 
-fn group_asked(routed: &Routed) -> Option<u32> {
+// Empty where there is no cursor.
+fn cursor_asked(alloc: Global, after: &Option<Cursor>) -> Result<String, Fail> {
+    match after {
+        Some(cursor) => Ok(cursor_text(alloc, cursor)?),
+        None => Ok(String::new(alloc)),
+    }
+}
+
+// The group, the limit and the text of the cursor.
+fn rows_asked(alloc: Global, routed: &Routed) -> Result<Option<(u32, u32, String)>, Fail> {
     match routed {
-        Routed::Command(Command::Ask(Query::Rows { group })) => Some(group.get()),
-        Routed::Refused(WebRefusal::NotBuilt) => None,
+        Routed::Command(
+            Command::Ask(
+                Query::Rows {
+                    group,
+                    after,
+                    limit,
+                },
+            ),
+        ) => Ok(Some((group.get(), *limit, cursor_asked(alloc, after)?))),
+        Routed::Refused(WebRefusal::NotBuilt) => Ok(None),
     }
 }
 
 #[test]
 fn requests_are_read_strictly(rt: HostRuntime) -> Result<(), Fail> {
-    let cases = [
-        ("GET", "/groups/1/rows", Some(1)),
-        ("GET", "/groups/999999999/rows", Some(999_999_999)),
-        ("GET", "/groups/1000000000/rows", None),
-        ("GET", "/groups/0/rows", None),
-        ("GET", "/groups/01/rows", None),
-        ("GET", "/groups/+1/rows", None),
-        ("GET", "/groups//rows", None),
-        ("GET", "/groups/rows", None),
-        ("GET", "/groups/1/rows/", None),
-        ("GET", "/groups/1/rows?", None),
-        ("GET", "/board", None),
-        ("POST", "/groups/1/rows", None),
-        ("HEAD", "/groups/1/rows", None),
+    let alloc = rt.alloc();
+    let served = [
+        ("/groups/1/rows", 1, 50, ""),
+        ("/groups/999999999/rows", 999_999_999, 50, ""),
+        ("/groups/1/rows?limit=4", 1, 4, ""),
+        (
+            "/groups/1/rows?limit=4&after=0.28935900.2",
+            1,
+            4,
+            "0.28935900.2",
+        ),
+        (
+            "/groups/1/rows?after=0.28935900.2&limit=4",
+            1,
+            4,
+            "0.28935900.2",
+        ),
+        ("/groups/1/rows?after=0.28936020.3", 1, 50, "0.28936020.3"),
+        ("/groups/1/rows?limit=0", 1, 0, ""),
+        ("/groups/1/rows?limit=501", 1, 501, ""),
+        ("/groups/1/rows?limit=4294967295", 1, 4_294_967_295, ""),
     ];
-    for (method, target, group) in cases {
-        let request = request(rt.alloc(), method, target)?;
-        assert_eq!(rt;
-            group_asked(&read_request(&request)),
-            group,
+    for (target, group, limit, after) in served {
+        let asked = rows_asked(
+            alloc,
+            &read_request(alloc, &request(alloc, "GET", target)?)?,
+        )?;
+        let (read_group, read_limit, read_after) = asked.ok_or("not built")?;
+        assert_eq!(rt; (read_group, read_limit), (group, limit), "at {target}");
+        assert_eq!(rt; read_after.as_str(), after, "at {target}");
+    }
+    let not_built = [
+        ("GET", "/groups/1000000000/rows"),
+        ("GET", "/groups/0/rows"),
+        ("GET", "/groups/01/rows"),
+        ("GET", "/groups/+1/rows"),
+        ("GET", "/groups//rows"),
+        ("GET", "/groups/rows"),
+        ("GET", "/groups/1/rows/"),
+        ("GET", "/groups/1/rows?"),
+        ("GET", "/groups/1/rows?limit=01"),
+        ("GET", "/groups/1/rows?limit=4&limit=4"),
+        ("GET", "/groups/1/rows?after=0.028935900.2"),
+        ("GET", "/groups/1/rows?limit=4&"),
+        ("GET", "/groups/1/rows?&limit=4"),
+        ("GET", "/groups/1/rows?limit=%34"),
+        ("GET", "/groups/1/rows?limit=4294967296"),
+        ("GET", "/groups/1/rows?at=latest"),
+        ("GET", "/groups/1/rows?limit=4&after=0.28935900.2&limit=4"),
+        ("GET", "/board"),
+        ("POST", "/groups/1/rows"),
+        ("HEAD", "/groups/1/rows"),
+    ];
+    for (method, target) in not_built {
+        let routed = read_request(alloc, &request(alloc, method, target)?)?;
+        assert!(rt;
+            rows_asked(alloc, &routed)?.is_none(),
             "at {method} {target}"
         );
     }
@@ -229,10 +296,14 @@ fn responses_have_their_status_and_body(rt: HostRuntime) -> Result<(), Fail> {
     assert_eq!(rt; listed.body.as_slice(), LISTING.as_bytes());
     let unknown = answer_response(alloc, &request, &unknown_group(2))?;
     assert_eq!(rt; unknown.status, 404);
-    let refused = refusal_response(alloc, &request, &WebRefusal::NotBuilt)?;
-    assert_eq!(rt; refused.status, 501);
+    let bad_limit = refused(0, Refusal::BadField(Field::Limit));
+    assert_eq!(rt; answer_response(alloc, &request, &bad_limit)?.status, 422);
+    let moved = refused(2, Refusal::Moved(0, 2));
+    assert_eq!(rt; answer_response(alloc, &request, &moved)?.status, 409);
+    let refusal = refusal_response(alloc, &request, &WebRefusal::NotBuilt)?;
+    assert_eq!(rt; refusal.status, 501);
     assert_eq!(rt;
-        refused.body.as_slice(),
+        refusal.body.as_slice(),
         b"{\"error\":\"not_built\"}".as_slice()
     );
     Ok(())
