@@ -1,5 +1,5 @@
 -- A text is a cursor's text exactly where its pieces between points are the cursor's pieces.
-use Rattle.std.proofs.Common.{◌≡◌, ◌≢◌, ℕ, ◌<◌, ◌≤◌, ◌^◌, Bool, false, ◌==◌, List, [], ◌∷◌, ◌++◌, map, length, get_or, decimal, All, Option, Some, None, Result, Ok, Err, IsErrAnd, Bor, refl, sym, ap, subst, ◌∙◌, inl, arith}
+use Rattle.std.proofs.Common.{◌≡◌, ℕ, ◌<◌, ◌≤◌, ◌^◌, Bool, false, ◌==◌, List, [], ◌∷◌, ◌++◌, map, length, get_or, decimal, All, Option, Some, None, Result, Ok, Err, IsErrAnd, Bor, refl, sym, ap, subst, ◌∙◌, inl, arith}
 use Rattle.std.specs.List.{slice_split}
 use Rattle.std.proofs.lemmas.List.{append_assoc, append-nil, get_or-map, length-map}
 use Rattle.std.proofs.lemmas.List.Elements.{All-cons, All-head, All-tail}

@@ -7,7 +7,7 @@ use Rattle.std.proofs.lemmas.Fmt.{decimal_injective, digits_decimal, decimal_non
 use Rattle.std.proofs.lemmas.Str.Parse.{not_in_digits}
 use Rattle.desk_base.specs.declared.searches.Cursor.{Cursor}
 use Rattle.desk_batch.specs.Cursors.{pick_text, further_pick, picks_text, position_text, cursor_text}
-use Rattle.desk_batch.specs.CursorReading.{IsPick, ArePicks, IsMoment, IsCursor, cursor_pieces}
+use Rattle.desk_batch.specs.CursorReading.{IsPick, IsCursor, cursor_pieces}
 use Rattle.desk_batch.proofs.DecimalLemmas.{own}
 use Rattle.desk_batch.proofs.PieceLemmas.{Lacks, decimal_lacks}
 use Rattle.desk_batch.proofs.CursorLemmas.{is_point, pieces_of_cursor}

@@ -1,5 +1,5 @@
 -- A request is read in one way.
-use Rattle.std.proofs.Common.{◌≡◌, ℕ, ◌⊎◌, List, [], ◌∷◌, ◌++◌, codes, decimal, Option, Some, None, unwrap_or, refl, sym, ap, subst, ◌∙◌, inl, inr, arith}
+use Rattle.std.proofs.Common.{◌≡◌, ℕ, List, [], ◌∷◌, ◌++◌, codes, decimal, Option, Some, None, unwrap_or, refl, sym, ap, subst, ◌∙◌, inl, inr, arith}
 use Rattle.std.specs.List.{slice_split}
 use Rattle.std.proofs.lemmas.List.{append_cancel_left, append_cancel_right}
 use Rattle.std.proofs.lemmas.Fmt.{decimal_injective}
@@ -12,7 +12,7 @@ use Rattle.desk_batch.specs.Paging.{IsQuery, AreInRange}
 use Rattle.desk_batch.specs.declared.requests.Routed.{Routed}
 use Rattle.desk_batch.specs.declared.requests.Routed.TheVariants.{Command, Refused}
 use Rattle.desk_batch.specs.declared.requests.WebRefusal.TheVariants.{NotBuilt}
-use Rattle.desk_batch.specs.Requesting.{default_limit, rows_target, IsRowsTarget, AsksRows, Reads}
+use Rattle.desk_batch.specs.Requesting.{default_limit, rows_target, IsRowsTarget, Reads}
 use Rattle.desk_batch.specs.RequestReading.{AreCut}
 use Rattle.desk_batch.proofs.PagingLemmas.{is_and, pieces_of_query, asked_same}
 use Rattle.desk_batch.proofs.TargetLemmas.{is_question, cut_of}

@@ -1,5 +1,5 @@
 -- The pages of a search among the turns of a conversation.
-use Rattle.std.specs.Prelude.{◌≡◌, ℕ, ◌⊎◌, List, [], ◌∷◌, map, Option, Some, None, ⊤}
+use Rattle.std.specs.Prelude.{◌≡◌, ℕ, ◌⊎◌, List, [], ◌∷◌, Option, Some, None, ⊤}
 use Rattle.desk_base.specs.declared.tables.Tables.{Tables}
 use Rattle.desk_base.specs.declared.group_rows.GroupRow.{GroupRow}
 use Rattle.desk_base.specs.declared.searches.Cursor.{Cursor}

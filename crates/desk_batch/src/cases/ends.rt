@@ -61,10 +61,11 @@ fn heads_have_limits(rt: HostRuntime) -> Result<(), Fail> {
     head.extend_from_slice(b"\r\n")?;
     gives(&rt, alloc, TRIAL, head.as_slice(), 4096, 4, CLOSED)?;
     let mut long = b"GET /groups/1/rows HTTP/1.1\r\na: ".to_vec(alloc)?;
-    for _ in 0..16352 {
+    for _ in 0..16351 {
         long.push(b'b')?;
     }
-    gives(&rt, alloc, TRIAL, &long[..16383], 4096, 3, b"")?;
+    gives(&rt, alloc, TRIAL, long.as_slice(), 4096, 3, b"")?;
+    long.push(b'b')?;
     gives(&rt, alloc, TRIAL, long.as_slice(), 4096, 4, CLOSED)
 }
 

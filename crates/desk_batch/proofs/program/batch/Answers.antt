@@ -1,5 +1,4 @@
-use Rattle.std.proofs.Common.{inl, refl, sym, subst, ap, ◌∙◌, []}
-use Rattle.std.proofs.KnownBytes.{Consumes-nil, Appends-nil}
+use Rattle.std.proofs.Common.{refl, sym, subst}
 use Rattle.desk_base.specs.Sound.{IsSound}
 use Rattle.desk_base.specs.Trial.{trial}
 use Rattle.desk_base.proofs.TrialSound.{trial_sound}
