@@ -22,3 +22,9 @@ pub mod OrderLaws
 pub mod Rules
 pub mod Fields
 pub mod TreeRules
+pub mod Groups
+pub mod Changes
+pub mod Acts
+pub mod Refusing
+pub mod Steps
+pub mod Histories

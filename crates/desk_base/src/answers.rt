@@ -1,23 +1,31 @@
 //! What a caller asks of a schedule, and what it is answered.
+use crate::booking_rows::Receipt;
+use crate::changes::{Act, Call};
 use crate::ids::GroupId;
-use crate::rules::Field;
-use crate::searches::{Cursor, Page};
-use crate::tables::Key;
+use crate::refusals::Refusal;
+use crate::searches::{Cursor, Options, Page};
 
 /// A question, which changes nothing.
 #[derive(Debug, Drop)]
 pub enum Query {
-    /// A page of a group's rows: at most `limit` of them, those that come after a cursor or the first.
+    /// A page of a group's rows: at most `limit` of them, of those whose start is within the options, and of those only the
+    /// ones that come after a cursor, where one is given. A cursor of another revision is gone on from where `latest` is true.
     Rows {
         group: GroupId,
+        options: Options,
         after: Option<Cursor>,
+        latest: bool,
         limit: u32,
     },
+    /// The revision alone.
+    Revision,
 }
 
 /// What is asked of the schedule.
 #[derive(Debug, Drop)]
 pub enum Command {
+    /// A change, with who asks for it.
+    Change(Call, Act),
     /// A question.
     Ask(Query),
 }
@@ -25,19 +33,12 @@ pub enum Command {
 /// What a command gave.
 #[derive(Debug, Drop)]
 pub enum Reply {
+    /// A change was accepted.
+    Change(Receipt),
     /// A page of a group's rows.
     Rows(Page),
-}
-
-/// Why a command was refused, with the values that show it.
-#[derive(Clone, Copy, Debug)]
-pub enum Refusal {
-    /// No row stands under this key, which the command names.
-    UnknownId(Key),
-    /// A field of the command is out of its range.
-    BadField(Field),
-    /// The revision that the cursor shows, and the one of the schedule now.
-    Moved(u64, u64),
+    /// The revision, which every answer carries.
+    Revision,
 }
 
 /// What became of a command.
@@ -45,6 +46,8 @@ pub enum Refusal {
 pub enum Outcome {
     /// The command was carried out.
     Done(Reply),
+    /// The change has the number of the caller's last one, and gave this then. Nothing changed.
+    Repeated(Receipt),
     /// The command was refused, and nothing changed.
     Refused(Refusal),
     /// Memory was not found. Everything is as before.

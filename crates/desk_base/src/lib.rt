@@ -10,6 +10,7 @@ mod booking_rows;
 mod calendar_rows;
 #[cfg(test)]
 mod cases;
+mod changes;
 mod copying;
 mod group_rows;
 mod ids;
@@ -19,6 +20,7 @@ mod memory;
 mod minutes;
 mod names;
 mod order;
+mod refusals;
 mod resource_rows;
 mod rules;
 mod searches;
@@ -26,9 +28,10 @@ mod serials;
 mod tables;
 mod trial;
 
-pub use answers::{Answer, Command, Outcome, Query, Refusal, Reply};
+pub use answers::{Answer, Command, Outcome, Query, Reply};
 pub use booking_rows::{BookingRow, CallerRow, Receipt};
 pub use calendar_rows::{BreakRow, CalendarRow, DayRow, OffRow, Shifts, WorkRow, ZoneRow};
+pub use changes::{Act, AnyRows, Call, Change, Entry, Keys};
 pub use copying::Duplicate;
 pub use group_rows::{
     GroupRow, Kinds, Leaf, LeafNo, Leaves, Node, NodeKind, NodeNo, Nodes, Ratings, Resources,
@@ -42,6 +45,7 @@ pub use items::Items;
 pub use memory::NoMemory;
 pub use minutes::{Minute, Window};
 pub use names::Name;
+pub use refusals::{Clash, Refusal, Shown};
 pub use resource_rows::{HasRow, Kind, MemberRow, NamedRow, ResourceRow};
 pub use rules::{Field, LeafRule, TableRule, TreeRule, Verdict};
 pub use searches::{Ask, Cursor, Found, Founds, Options, Page, Picks, Position};

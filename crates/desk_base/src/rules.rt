@@ -41,8 +41,8 @@ pub enum Verdict {
     Unfit,
 }
 
-/// The fields of rows, by which a refused row names what is out of its range. `Overlap` speaks of a range that meets another
-/// row's.
+/// The fields of commands and rows, by which a refused one names what is wrong. `Overlap` speaks of a range that meets another
+/// row's, `Body` of a body as a whole, and `Other` of a name that is none of these.
 #[derive(Clone, Copy, Debug, PartialEq, Eq)]
 pub enum Field {
     Name,
@@ -70,6 +70,20 @@ pub enum Field {
     Restricted,
     Window,
     Limit,
+    Act,
+    Caller,
+    Number,
+    Zone,
+    From,
+    Resource,
+    Unit,
+    Site,
+    What,
+    Tree,
+    Start,
+    Picks,
+    Body,
+    Other,
 }
 
 /// The rules of a tree's nodes.
