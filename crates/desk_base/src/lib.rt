@@ -12,6 +12,7 @@ mod calendar_rows;
 mod cases;
 mod changes;
 mod copying;
+mod found_rows;
 mod group_rows;
 mod ids;
 mod items;

@@ -1,0 +1,3 @@
+-- The definitions that contracts of this crate cite, each in the module of its subject.
+pub mod Books
+pub mod Built

@@ -1,0 +1,10 @@
+//! The one-thread scheduler: a schedule with its journal (`Book`), and what a command comes to over it (`step`).
+#![tactic(auto)]
+
+mod book;
+mod callers;
+mod early;
+mod group_rules;
+mod row_rules;
+
+pub use book::Book;
