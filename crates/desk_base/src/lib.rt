@@ -10,6 +10,7 @@ mod booking_rows;
 mod calendar_rows;
 #[cfg(test)]
 mod cases;
+mod change_copies;
 mod changes;
 mod copying;
 mod group_rows;
