@@ -16,6 +16,7 @@ mod copying;
 mod group_rows;
 mod ids;
 mod items;
+mod keys;
 pub mod laws;
 mod memory;
 mod minutes;
