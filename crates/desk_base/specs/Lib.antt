@@ -26,5 +26,6 @@ pub mod Groups
 pub mod Changes
 pub mod Acts
 pub mod Refusing
+pub mod Lookups
 pub mod Steps
 pub mod Histories

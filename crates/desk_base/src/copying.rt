@@ -19,7 +19,7 @@ pub trait Duplicate: Drop {
 }
 
 /// A list of copies.
-fn copy_items<T: Duplicate>(alloc: Global, items: &Items<T>) -> Result<Items<T>, NoMemory>
+pub(crate) fn copy_items<T: Duplicate>(alloc: Global, items: &Items<T>) -> Result<Items<T>, NoMemory>
     ensures { IfOk result (λ copies. copies ≡ items.now) }
 {
     let mut copies = Items::new(alloc);
@@ -30,7 +30,7 @@ fn copy_items<T: Duplicate>(alloc: Global, items: &Items<T>) -> Result<Items<T>,
 }
 
 /// A list of items that are copied by their bytes.
-fn copy_plain<T: Copy>(alloc: Global, items: &Items<T>) -> Result<Items<T>, NoMemory>
+pub(crate) fn copy_plain<T: Copy>(alloc: Global, items: &Items<T>) -> Result<Items<T>, NoMemory>
     ensures { IfOk result (λ copies. copies ≡ items.now) }
 {
     Items::from_slice(alloc, items.as_slice())

@@ -10,12 +10,14 @@ mod booking_rows;
 mod calendar_rows;
 #[cfg(test)]
 mod cases;
+mod change_copies;
 mod changes;
 mod copying;
 mod found_rows;
 mod group_rows;
 mod ids;
 mod items;
+mod keys;
 pub mod laws;
 mod memory;
 mod minutes;
