@@ -19,6 +19,7 @@ mod ids;
 mod items;
 mod keys;
 pub mod laws;
+mod lookups;
 mod memory;
 mod minutes;
 mod names;
