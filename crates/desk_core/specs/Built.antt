@@ -9,7 +9,6 @@ use Rattle.desk_base.specs.declared.group_rows.NodeKind.TheVariants.{Leaf as Lea
 use Rattle.desk_base.specs.declared.group_rows.Same.TheVariants.{None as NoSame}
 use Rattle.desk_base.specs.declared.changes.Act.{Act}
 use Rattle.desk_base.specs.declared.changes.Act.TheVariants as act
-use Rattle.desk_base.specs.declared.answers.Query.TheVariants as query
 use Rattle.desk_base.specs.declared.answers.Command.{Command}
 use Rattle.desk_base.specs.declared.answers.Command.TheVariants as command
 
@@ -54,5 +53,4 @@ IsServed _ = ⊥
 -- a command that is served
 abbrev pub IsBuilt : Command → Type 0
 IsBuilt (command.Change call a) = IsServed a
-IsBuilt (command.Ask query.Revision) = ⊤
-IsBuilt (command.Ask _) = ⊥
+IsBuilt (command.Ask q) = ⊤

@@ -1,3 +1,4 @@
 -- The definitions that contracts of this crate cite, each in the module of its subject.
 pub mod Books
 pub mod Built
+pub mod Answering

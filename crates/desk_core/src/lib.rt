@@ -2,6 +2,7 @@
 #![tactic(auto)]
 
 mod accepting;
+mod answering;
 mod book;
 mod callers;
 mod group_rules;

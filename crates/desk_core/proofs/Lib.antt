@@ -1,0 +1,2 @@
+-- Lemmas of the scheduler.
+pub mod GroupsThere
