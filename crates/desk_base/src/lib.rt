@@ -22,6 +22,7 @@ mod lookups;
 mod memory;
 mod minutes;
 mod names;
+mod open_tables;
 mod order;
 mod refusals;
 mod resource_rows;
