@@ -1,8 +1,8 @@
 -- Rows in the order of their keys: what stands below and above a key, and what a search for a key finds.
-use Rattle.std.proofs.Common.{◌≡◌, ℕ, zero, suc, ◌+◌, ◌<◌, ◌≤◌, Bool, true, false, cond, ◌||◌, List, [], ◌∷◌, ◌++◌, map, length, take, drop, get_or, set, inl, inr, refl, sym, ap, ◌∙◌, subst, arith, drop-cons}
+use Rattle.std.proofs.Common.{◌≡◌, ℕ, zero, suc, ◌+◌, ◌<◌, ◌≤◌, Bool, true, false, cond, ◌||◌, List, [], ◌∷◌, ◌++◌, map, length, take, drop, get_or, set, Result, Ok, Err, IfOk, IfErr, inl, inr, refl, sym, ap, ◌∙◌, subst, arith, drop-cons}
 use Rattle.std.specs.Prelude.{filter}
 use Rattle.std.specs.List.{AllWithin, HoldsAt, list_any, insert, remove}
-use Rattle.std.specs.List.Sorted.{IsStrictlySortedBy, IsSortedBy, IsNonDecreasingBy, IsPartitionPoint}
+use Rattle.std.specs.List.Sorted.{IsStrictlySortedBy, IsSortedBy, IsNonDecreasingBy, IsPartitionPoint, IsSearchInRange, IsBinarySearchResult}
 use Rattle.std.specs.Ordering.{is_lt, is_eq, ordering_reverse, ordering_index}
 use Rattle.std.specs.declared.cmp.Ordering.{Ordering}
 use Rattle.std.specs.declared.cmp.Ordering.TheVariants.{Less, Equal, Greater}
@@ -189,3 +189,8 @@ module _ {R : Type 0} (any : R → AnyRow) where
   pub none_taken : (k : Key) (rows : List R) (at : ℕ) → BelongsAt any k rows at → rows ≡ without_one (λ y. key_of (any y)) k rows
   unfolding without_one
   none_taken k rows at s = sym (take-append-drop at rows) ∙ ap (λ l. l ++ drop at rows) s.before ∙ ap (λ l. rows_below (λ y. key_of (any y)) k rows ++ l) s.after
+
+  -- what `binary_search_by` answers, said of keys
+  pub searched : (k : Key) (rows : List R) (r : Result ℕ ℕ) → IsStrictlySortedBy key_cmp (keys_by any rows) → IsSearchInRange r (length rows) → IsBinarySearchResult (λ y. key_cmp (key_of (any y)) k) rows r → IfOk r (StandsAt any k rows) × IfErr r (BelongsAt any k rows)
+  searched k rows (Ok at) s b h = (stands k rows at s b h, tt)
+  searched k rows (Err at) s b h = (tt, belongs k rows at s b h)

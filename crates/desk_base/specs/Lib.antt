@@ -27,5 +27,6 @@ pub mod Changes
 pub mod Acts
 pub mod Refusing
 pub mod Lookups
+pub mod OpenTables
 pub mod Steps
 pub mod Histories

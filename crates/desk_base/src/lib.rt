@@ -23,6 +23,7 @@ mod lookups;
 mod memory;
 mod minutes;
 mod names;
+mod open_tables;
 mod order;
 mod refusals;
 mod resource_rows;

@@ -1,0 +1,200 @@
+-- A change keeps the keys of each table rising.
+use Rattle.std.proofs.Common.{◌≡◌, ℕ, Bool, true, false, cond, List, [], ◌∷◌, ◌++◌, map, inl, inr, refl, sym, ap, ◌∙◌, subst}
+use Rattle.std.proofs.lemmas.Bool.{false≢true}
+use Rattle.std.specs.Prelude.{filter}
+use Rattle.std.specs.List.{AllByRecursion}
+use Rattle.std.specs.List.Sorted.{IsStrictlySortedBy}
+use Rattle.std.specs.Ordering.{is_lt}
+use Rattle.std.specs.declared.cmp.Ordering.{Ordering}
+use Rattle.std.specs.declared.cmp.Ordering.TheVariants.{Less, Equal, Greater}
+use Rattle.desk_base.specs.Types.{Tables, Table, Key, AnyRow}
+use Rattle.desk_base.specs.declared.changes.Change.{Change}
+use Rattle.desk_base.specs.declared.tables.Table.TheVariants.{Zone as ZoneTable, Calendar as CalendarTable, Work as WorkTable, Break as BreakTable, Day as DayTable, Off as OffTable, Unit as UnitTable, Site as SiteTable, Role as RoleTable, Characteristic as CharacteristicTable, Territory as TerritoryTable, Resource as ResourceTable, HasRole as HasRoleTable, HasCharacteristic as HasCharacteristicTable, HasTerritory as HasTerritoryTable, Member as MemberTable, Group as GroupTable, Booking as BookingTable, Caller as CallerTable, BookingNumbers}
+use Rattle.desk_base.specs.declared.tables.AnyRow.TheVariants.{Zone, Calendar, Work, Break, Day, Off, Unit, Site, Role, Characteristic, Territory, Resource, HasRole, HasCharacteristic, HasTerritory, Member, Group, Booking, Caller}
+use Rattle.desk_base.specs.Keys.{key_cmp}
+use Rattle.desk_base.specs.Rows.{key_of}
+use Rattle.desk_base.specs.Changes.{is_below, rows_below, rows_above, with_one, without_one, with_row, without_row, without_key, with_rows, without_keys, with_change}
+use Rattle.desk_base.specs.Lookups.{KeysRise, keys_by}
+use Rattle.desk_base.proofs.Members.{IsIn, all_at, all_from, in_mapped, in-map, in-filter, sorted-append}
+use Rattle.desk_base.proofs.Sounds.{key_total}
+
+below_is_less : (o : Ordering) → is_lt o ≡ true → o ≡ Less
+below_is_less Less e = refl
+below_is_less Equal e = absurd (false≢true e)
+below_is_less Greater e = absurd (false≢true e)
+
+-- ---- one list of rows
+
+module _ {R : Type 0} (any : R → AnyRow) where
+  keys-append : (xs ys : List R) → keys_by any (xs ++ ys) ≡ keys_by any xs ++ keys_by any ys
+  keys-append [] ys = refl
+  keys-append (x ∷ xs) ys = ap (λ l. key_of (any x) ∷ l) (keys-append xs ys)
+
+  -- a key of filtered rows is that of a row that passes
+  in_keys : (p : R → Bool) (j : Key) (xs : List R) → IsIn j (keys_by any (filter p xs)) → (y : R) × IsIn y xs × (p y ≡ true) × (j ≡ key_of (any y))
+  in_keys p j xs i =
+      let a = in-map key_of j (map any (filter p xs)) i in
+      let b = in-map any a.0 (filter p xs) a.1 in
+      let f = in-filter p b.0 xs b.1 in
+      (b.0, f.0, f.1, a.2 ∙ ap key_of b.2)
+
+  rise-filter_step : (p : R → Bool) (x : R) (xs : List R) → AllByRecursion (λ w. key_cmp (key_of (any x)) w ≡ Less) (keys_by any xs) → IsStrictlySortedBy key_cmp (keys_by any (filter p xs)) → (b : Bool) → IsStrictlySortedBy key_cmp (keys_by any (cond b (x ∷ filter p xs) (filter p xs)))
+  unfolding IsStrictlySortedBy
+  rise-filter_step p x xs a s true = (
+    all_from _ (keys_by any (filter p xs)) (λ j i.
+        let r = in_keys p j xs i in
+        subst (λ w. key_cmp (key_of (any x)) w ≡ Less) (sym r.3) (all_at (λ w. key_cmp (key_of (any x)) w ≡ Less) (keys_by any xs) (key_of (any r.0)) a (in_mapped key_of (any r.0) (map any xs) (in_mapped any r.0 xs r.1)))),
+    s,
+  )
+  rise-filter_step p x xs a s false = s
+
+  rise-filter : (p : R → Bool) (xs : List R) → IsStrictlySortedBy key_cmp (keys_by any xs) → IsStrictlySortedBy key_cmp (keys_by any (filter p xs))
+  unfolding IsStrictlySortedBy
+  rise-filter p [] s = tt
+  rise-filter p (x ∷ xs) s = rise-filter_step p x xs s.0 (rise-filter p xs s.1) (p x)
+
+  below_less : (k j : Key) (xs : List R) → IsIn j (keys_by any (rows_below (λ y. key_of (any y)) k xs)) → key_cmp j k ≡ Less
+  below_less k j xs i = let r = in_keys (λ y. is_below (key_of (any y)) k) j xs i in subst (λ w. key_cmp w k ≡ Less) (sym r.3) (below_is_less (key_cmp (key_of (any r.0)) k) r.2)
+
+  above_less : (k j : Key) (xs : List R) → IsIn j (keys_by any (rows_above (λ y. key_of (any y)) k xs)) → key_cmp k j ≡ Less
+  above_less k j xs i = let r = in_keys (λ y. is_below k (key_of (any y))) j xs i in subst (λ w. key_cmp k w ≡ Less) (sym r.3) (below_is_less (key_cmp k (key_of (any r.0))) r.2)
+
+  pub rise-with_one : (x : R) (xs : List R) → IsStrictlySortedBy key_cmp (keys_by any xs) → IsStrictlySortedBy key_cmp (keys_by any (with_one (λ y. key_of (any y)) x xs))
+  unfolding with_one IsStrictlySortedBy
+  rise-with_one x xs s =
+      let k : Key = key_of (any x) in
+      let low : List R = rows_below (λ y. key_of (any y)) k xs in
+      let high : List R = rows_above (λ y. key_of (any y)) k xs in
+      subst (IsStrictlySortedBy key_cmp) (sym (keys-append low (x ∷ high)))
+      (sorted-append key_cmp (keys_by any low) (k ∷ keys_by any high) (rise-filter (λ y. is_below (key_of (any y)) k) xs s)
+        (all_from _ (keys_by any high) (λ j i. above_less k j xs i), rise-filter (λ y. is_below k (key_of (any y))) xs s)
+        (λ u v i j. let l = below_less k u xs i in elim j [ inl e ↦ subst (λ w. key_cmp u w ≡ Less) (sym e) l | inr h ↦ key_total.trans u k v l (above_less k v xs h) ]))
+
+  pub rise-without_one : (k : Key) (xs : List R) → IsStrictlySortedBy key_cmp (keys_by any xs) → IsStrictlySortedBy key_cmp (keys_by any (without_one (λ y. key_of (any y)) k xs))
+  unfolding without_one
+  rise-without_one k xs s =
+      let low : List R = rows_below (λ y. key_of (any y)) k xs in
+      let high : List R = rows_above (λ y. key_of (any y)) k xs in
+      subst (IsStrictlySortedBy key_cmp) (sym (keys-append low high))
+      (sorted-append key_cmp (keys_by any low) (keys_by any high) (rise-filter (λ y. is_below (key_of (any y)) k) xs s) (rise-filter (λ y. is_below k (key_of (any y))) xs s)
+        (λ u v i j. key_total.trans u k v (below_less k u xs i) (above_less k v xs j)))
+
+-- ---- all tables
+
+pub rise-with_row : (t : Tables) (row : AnyRow) → KeysRise t → KeysRise (with_row t row)
+rise-with_row t (Zone x) h ZoneTable = rise-with_one Zone x t.zones (h ZoneTable)
+rise-with_row t (Zone x) h table = h table
+rise-with_row t (Calendar x) h CalendarTable = rise-with_one Calendar x t.calendars (h CalendarTable)
+rise-with_row t (Calendar x) h table = h table
+rise-with_row t (Work x) h WorkTable = rise-with_one Work x t.works (h WorkTable)
+rise-with_row t (Work x) h table = h table
+rise-with_row t (Break x) h BreakTable = rise-with_one Break x t.breaks (h BreakTable)
+rise-with_row t (Break x) h table = h table
+rise-with_row t (Day x) h DayTable = rise-with_one Day x t.days (h DayTable)
+rise-with_row t (Day x) h table = h table
+rise-with_row t (Off x) h OffTable = rise-with_one Off x t.offs (h OffTable)
+rise-with_row t (Off x) h table = h table
+rise-with_row t (Unit x) h UnitTable = rise-with_one Unit x t.units (h UnitTable)
+rise-with_row t (Unit x) h table = h table
+rise-with_row t (Site x) h SiteTable = rise-with_one Site x t.sites (h SiteTable)
+rise-with_row t (Site x) h table = h table
+rise-with_row t (Role x) h RoleTable = rise-with_one Role x t.roles (h RoleTable)
+rise-with_row t (Role x) h table = h table
+rise-with_row t (Characteristic x) h CharacteristicTable = rise-with_one Characteristic x t.characteristics (h CharacteristicTable)
+rise-with_row t (Characteristic x) h table = h table
+rise-with_row t (Territory x) h TerritoryTable = rise-with_one Territory x t.territories (h TerritoryTable)
+rise-with_row t (Territory x) h table = h table
+rise-with_row t (Resource x) h ResourceTable = rise-with_one Resource x t.resources (h ResourceTable)
+rise-with_row t (Resource x) h table = h table
+rise-with_row t (HasRole x) h HasRoleTable = rise-with_one HasRole x t.has_roles (h HasRoleTable)
+rise-with_row t (HasRole x) h table = h table
+rise-with_row t (HasCharacteristic x) h HasCharacteristicTable = rise-with_one HasCharacteristic x t.has_characteristics (h HasCharacteristicTable)
+rise-with_row t (HasCharacteristic x) h table = h table
+rise-with_row t (HasTerritory x) h HasTerritoryTable = rise-with_one HasTerritory x t.has_territories (h HasTerritoryTable)
+rise-with_row t (HasTerritory x) h table = h table
+rise-with_row t (Member x) h MemberTable = rise-with_one Member x t.members (h MemberTable)
+rise-with_row t (Member x) h table = h table
+rise-with_row t (Group x) h GroupTable = rise-with_one Group x t.groups (h GroupTable)
+rise-with_row t (Group x) h table = h table
+rise-with_row t (Booking x) h BookingTable = rise-with_one Booking x t.bookings (h BookingTable)
+rise-with_row t (Booking x) h table = h table
+rise-with_row t (Caller x) h CallerTable = rise-with_one Caller x t.callers (h CallerTable)
+rise-with_row t (Caller x) h table = h table
+
+pub rise-without_row : (t : Tables) (table : Table) (k : Key) → KeysRise t → KeysRise (without_row t table k)
+rise-without_row t ZoneTable k h ZoneTable = rise-without_one Zone k t.zones (h ZoneTable)
+rise-without_row t ZoneTable k h table = h table
+rise-without_row t CalendarTable k h CalendarTable = rise-without_one Calendar k t.calendars (h CalendarTable)
+rise-without_row t CalendarTable k h table = h table
+rise-without_row t WorkTable k h WorkTable = rise-without_one Work k t.works (h WorkTable)
+rise-without_row t WorkTable k h table = h table
+rise-without_row t BreakTable k h BreakTable = rise-without_one Break k t.breaks (h BreakTable)
+rise-without_row t BreakTable k h table = h table
+rise-without_row t DayTable k h DayTable = rise-without_one Day k t.days (h DayTable)
+rise-without_row t DayTable k h table = h table
+rise-without_row t OffTable k h OffTable = rise-without_one Off k t.offs (h OffTable)
+rise-without_row t OffTable k h table = h table
+rise-without_row t UnitTable k h UnitTable = rise-without_one Unit k t.units (h UnitTable)
+rise-without_row t UnitTable k h table = h table
+rise-without_row t SiteTable k h SiteTable = rise-without_one Site k t.sites (h SiteTable)
+rise-without_row t SiteTable k h table = h table
+rise-without_row t RoleTable k h RoleTable = rise-without_one Role k t.roles (h RoleTable)
+rise-without_row t RoleTable k h table = h table
+rise-without_row t CharacteristicTable k h CharacteristicTable = rise-without_one Characteristic k t.characteristics (h CharacteristicTable)
+rise-without_row t CharacteristicTable k h table = h table
+rise-without_row t TerritoryTable k h TerritoryTable = rise-without_one Territory k t.territories (h TerritoryTable)
+rise-without_row t TerritoryTable k h table = h table
+rise-without_row t ResourceTable k h ResourceTable = rise-without_one Resource k t.resources (h ResourceTable)
+rise-without_row t ResourceTable k h table = h table
+rise-without_row t HasRoleTable k h HasRoleTable = rise-without_one HasRole k t.has_roles (h HasRoleTable)
+rise-without_row t HasRoleTable k h table = h table
+rise-without_row t HasCharacteristicTable k h HasCharacteristicTable = rise-without_one HasCharacteristic k t.has_characteristics (h HasCharacteristicTable)
+rise-without_row t HasCharacteristicTable k h table = h table
+rise-without_row t HasTerritoryTable k h HasTerritoryTable = rise-without_one HasTerritory k t.has_territories (h HasTerritoryTable)
+rise-without_row t HasTerritoryTable k h table = h table
+rise-without_row t MemberTable k h MemberTable = rise-without_one Member k t.members (h MemberTable)
+rise-without_row t MemberTable k h table = h table
+rise-without_row t GroupTable k h GroupTable = rise-without_one Group k t.groups (h GroupTable)
+rise-without_row t GroupTable k h table = h table
+rise-without_row t BookingTable k h BookingTable = rise-without_one Booking k t.bookings (h BookingTable)
+rise-without_row t BookingTable k h table = h table
+rise-without_row t CallerTable k h CallerTable = rise-without_one Caller k t.callers (h CallerTable)
+rise-without_row t CallerTable k h table = h table
+rise-without_row t BookingNumbers k h table = h table
+
+pub rise-without_key : (t : Tables) (k : Key) → KeysRise t → KeysRise (without_key t k)
+rise-without_key t k h = rise-without_row t k.table k h
+
+pub rise-with_rows : (t : Tables) (rows : List AnyRow) → KeysRise t → KeysRise (with_rows t rows)
+rise-with_rows t [] h = h
+rise-with_rows t (row ∷ rows) h = rise-with_rows (with_row t row) rows (rise-with_row t row h)
+
+pub rise-without_keys : (t : Tables) (keys : List Key) → KeysRise t → KeysRise (without_keys t keys)
+rise-without_keys t [] h = h
+rise-without_keys t (k ∷ keys) h = rise-without_keys (without_key t k) keys (rise-without_key t k h)
+
+rise-counters : (t : Tables) (revision last : ℕ) → KeysRise t → KeysRise (record t { revision = revision; last_booking = last })
+rise-counters t revision last h ZoneTable = h ZoneTable
+rise-counters t revision last h CalendarTable = h CalendarTable
+rise-counters t revision last h WorkTable = h WorkTable
+rise-counters t revision last h BreakTable = h BreakTable
+rise-counters t revision last h DayTable = h DayTable
+rise-counters t revision last h OffTable = h OffTable
+rise-counters t revision last h UnitTable = h UnitTable
+rise-counters t revision last h SiteTable = h SiteTable
+rise-counters t revision last h RoleTable = h RoleTable
+rise-counters t revision last h CharacteristicTable = h CharacteristicTable
+rise-counters t revision last h TerritoryTable = h TerritoryTable
+rise-counters t revision last h ResourceTable = h ResourceTable
+rise-counters t revision last h HasRoleTable = h HasRoleTable
+rise-counters t revision last h HasCharacteristicTable = h HasCharacteristicTable
+rise-counters t revision last h HasTerritoryTable = h HasTerritoryTable
+rise-counters t revision last h MemberTable = h MemberTable
+rise-counters t revision last h GroupTable = h GroupTable
+rise-counters t revision last h BookingTable = h BookingTable
+rise-counters t revision last h CallerTable = h CallerTable
+rise-counters t revision last h BookingNumbers = h BookingNumbers
+
+-- the tables with a change have rising keys, where the tables have
+pub rise-with_change : (t : Tables) (c : Change) → KeysRise t → KeysRise (with_change t c)
+rise-with_change t c h = rise-counters (with_rows (without_keys t c.removes) c.puts) c.revision c.last_booking (rise-with_rows (without_keys t c.removes) c.puts (rise-without_keys t c.removes h))
