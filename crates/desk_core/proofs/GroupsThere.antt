@@ -1,7 +1,7 @@
 -- A group is found by its number exactly where a row stands under its key.
-use Rattle.std.proofs.Common.{◌≡◌, ℕ, Bool, true, false, ◌||◌, not, ◌==◌, List, [], ◌∷◌, map, Option, Some, None, if◌then◌else◌, refl, sym, ap, ◌∙◌, arith}
+use Rattle.std.proofs.Common.{◌≡◌, ℕ, Bool, true, false, cond, ◌&&◌, ◌||◌, not, ◌==◌, List, [], ◌∷◌, map, Option, Some, None, inl, inr, if◌then◌else◌, refl, sym, ap, ◌∙◌, subst, arith}
 use Rattle.std.proofs.lemmas.Bool.Decides.{nat_tests}
-use Rattle.std.specs.Prelude.{find, nat_lt}
+use Rattle.std.specs.Prelude.{find, nat_lt, is_some, option_map, Contains}
 use Rattle.std.specs.List.{list_any}
 use Rattle.std.specs.Option.{option_or}
 use Rattle.std.specs.Ordering.{nat_cmp, is_eq, ordering_then}
@@ -11,12 +11,24 @@ use Rattle.desk_base.specs.declared.tables.Tables.{Tables}
 use Rattle.desk_base.specs.declared.tables.Table.TheVariants.{Group as GroupTable}
 use Rattle.desk_base.specs.declared.tables.AnyRow.TheVariants.{Group}
 use Rattle.desk_base.specs.declared.group_rows.GroupRow.{GroupRow}
+use Rattle.desk_base.specs.declared.tables.Key.{Key}
+use Rattle.desk_base.specs.declared.searches.Cursor.{Cursor}
+use Rattle.desk_base.specs.declared.searches.Options.{Options}
+use Rattle.desk_base.specs.declared.answers.Query.TheVariants.{Rows as RowsOf}
+use Rattle.desk_base.specs.declared.answers.Outcome.{Outcome}
+use Rattle.desk_base.specs.declared.answers.Outcome.TheVariants.{Done, Repeated, Refused, NoMemory}
+use Rattle.desk_base.specs.declared.answers.Reply.TheVariants.{Rows}
+use Rattle.desk_base.specs.declared.answers.Reply.TheVariants as reply
 use Rattle.desk_base.specs.declared.refusals.Refusal.{Refusal}
 use Rattle.desk_base.specs.declared.refusals.Refusal.TheVariants.{UnknownId}
 use Rattle.desk_base.specs.Keys.{id_key}
 use Rattle.desk_base.specs.Rows.{key_of}
 use Rattle.desk_base.specs.Groups.{group_of}
 use Rattle.desk_base.specs.Refusing.{is_key, is_there, unknown_among}
+use Rattle.desk_base.specs.Steps.{place_of, refused_limit, refused_cursor, refused_page}
+use Rattle.desk_base.proofs.Members.{IsIn, contains_from_in}
+use Rattle.desk_base.proofs.Tests.{find_cases}
+use Rattle.desk_core.specs.Answering.{IsPageOrNone, IsAnswerOrNone}
 
 -- whether an order is that of equal numbers
 eq_then : (a b : Bool) → is_eq (ordering_then (if a then Less else if b then Equal else Greater) Equal) ≡ not a && b
@@ -31,6 +43,65 @@ not_below m n = grind (arith, nat_tests)
 group_key : (m n : ℕ) → is_key (id_key GroupTable m) (id_key GroupTable n) ≡ (n == m)
 group_key m n = eq_then (nat_lt m n) (m == n) ∙ not_below m n
 
-found_there : (id : ℕ) (gs : List GroupRow) (b : Bool) (g : GroupRow) → list_any (is_key (id_key GroupTable id)) (map key_of (map Group gs)) ≡ list_any (λ (x : GroupRow). x.id == id) gs
-found_there id [] b g = refl
-found_there id (x ∷ gs) b g = ap (λ u. u || list_any (is_key (id_key GroupTable id)) (map key_of (map Group gs))) (group_key id x.id) ∙ ap (λ u. (x.id == id) || u) (found_there id gs b g)
+-- whether some element passes is whether one is found
+found_step : {A : Type 0} (b : Bool) (x : A) (rest : Bool) (o : Option A) → rest ≡ is_some o → (b || rest) ≡ is_some (cond b (Some x) o)
+found_step true x rest o e = refl
+found_step false x rest o e = e
+
+some_found : {A : Type 0} (p : A → Bool) (xs : List A) → list_any p xs ≡ is_some (find p xs)
+some_found p [] = refl
+some_found p (x ∷ xs) = found_step (p x) x (list_any p xs) (find p xs) (some_found p xs)
+
+same_any : (id : ℕ) (gs : List GroupRow) → list_any (is_key (id_key GroupTable id)) (map key_of (map Group gs)) ≡ list_any (λ (x : GroupRow). x.id == id) gs
+same_any id [] = refl
+same_any id (x ∷ gs) = ap (λ u. u || list_any (is_key (id_key GroupTable id)) (map key_of (map Group gs))) (group_key id x.id) ∙ ap (λ u. (x.id == id) || u) (same_any id gs)
+
+-- a row stands under a group's key exactly where the group is found
+pub group-there : (t : Tables) (id : ℕ) → is_there t (id_key GroupTable id) ≡ is_some (group_of t id)
+group-there t id = same_any id t.groups ∙ some_found (λ (x : GroupRow). x.id == id) t.groups
+
+first_unknown : (b : Bool) (k : Key) → option_map UnknownId (cond (not b) (Some k) None) ≡ (if b then None else Some (UnknownId k))
+first_unknown true k = refl
+first_unknown false k = refl
+
+unknown_step : (t : Tables) (id : ℕ) → unknown_among t (id_key GroupTable id ∷ []) ≡ (if is_some (group_of t id) then None else Some (UnknownId (id_key GroupTable id)))
+unknown_step t id = first_unknown (is_there t (id_key GroupTable id)) (id_key GroupTable id) ∙ ap (λ b. if b then None else Some (UnknownId (id_key GroupTable id))) (group-there t id)
+
+-- the refusal of a page of a group that is there, and of one that is not
+pub known_page : (t : Tables) (id : ℕ) (g : GroupRow) (after : Option Cursor) (latest : Bool) (limit : ℕ) → Some g ≡ group_of t id
+    → refused_page t id after latest limit ≡ option_or (refused_limit limit) (refused_cursor t.revision after latest)
+known_page t id g after latest limit e =
+    ap (λ u. option_or u (option_or (refused_limit limit) (refused_cursor t.revision after latest)))
+    (unknown_step t id ∙ ap (λ (o : Option GroupRow). if is_some o then None else Some (UnknownId (id_key GroupTable id))) (sym e))
+
+pub unknown_page : (t : Tables) (id : ℕ) (after : Option Cursor) (latest : Bool) (limit : ℕ) → None ≡ group_of t id
+    → refused_page t id after latest limit ≡ Some (UnknownId (id_key GroupTable id))
+unknown_page t id after latest limit e =
+    ap (λ u. option_or u (option_or (refused_limit limit) (refused_cursor t.revision after latest)))
+    (unknown_step t id ∙ ap (λ (o : Option GroupRow). if is_some o then None else Some (UnknownId (id_key GroupTable id))) (sym e))
+
+-- a group that is found is there
+pub found_group : (t : Tables) (id : ℕ) (g : GroupRow) → Some g ≡ group_of t id → Contains t.groups g
+found_group t id g e =
+    elim (find_cases (λ (x : GroupRow). x.id == id) t.groups) [
+      | inl n ↦ let f : Some g ≡ None = e ∙ n in absurd (cc)
+      | inr (y, i, p, f) ↦ let h : Some y ≡ Some g = sym f ∙ sym e in let k : y ≡ g = cc in contains_from_in t.groups g (subst (λ z. IsIn z t.groups) k i)
+    ]
+
+-- what a page of a group comes to is the answer
+pub page_answers : (t : Tables) (id : ℕ) (g : GroupRow) (o : Options) (after : Option Cursor) (latest : Bool) (limit : ℕ) (out : Outcome) → Some g ≡ group_of t id
+    → option_or (refused_limit limit) (refused_cursor t.revision after latest) ≡ None → IsPageOrNone t g o (place_of after) limit out → IsAnswerOrNone t (RowsOf id o after latest limit) out
+page_answers t id g o after latest limit (Done (Rows page)) e r h = inl (known_page t id g after latest limit e ∙ r, (g, sym e, h))
+page_answers t id g o after latest limit (Done (reply.Change receipt)) e r h = absurd h
+page_answers t id g o after latest limit (Done reply.Revision) e r h = absurd h
+page_answers t id g o after latest limit (Repeated receipt) e r h = absurd h
+page_answers t id g o after latest limit (Refused why) e r h = absurd h
+page_answers t id g o after latest limit NoMemory e r h = inr refl
+
+-- the limit of a page that is not refused is not
+pub limit_passes : (limit : ℕ) (o : Option Refusal) → option_or (refused_limit limit) o ≡ None → refused_limit limit ≡ None
+limit_passes limit o e = passes (refused_limit limit) e
+  where
+    passes : (r : Option Refusal) → option_or r o ≡ None → r ≡ None
+    passes None e = refl
+    passes (Some why) e = e

@@ -5,6 +5,7 @@ mod accepting;
 mod answering;
 mod book;
 mod callers;
+mod early;
 mod group_rules;
 mod row_rules;
 
