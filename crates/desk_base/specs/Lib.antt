@@ -28,5 +28,6 @@ pub mod Acts
 pub mod Refusing
 pub mod Lookups
 pub mod OpenTables
+pub mod Prepared
 pub mod Steps
 pub mod Histories
