@@ -1,2 +1,3 @@
 -- Lemmas of the scheduler.
 pub mod GroupsThere
+pub mod EarlyParts

@@ -119,12 +119,12 @@ fn rows(
     requires { IsSound tables.now }
     ensures { IsAnswerOrNone tables.now (RowsOf group options.now after.now latest limit) result }
 {
-    let Some(row) = tables.group(group) else {
-        return Outcome::Refused(unknown_group(group));
-    };
-    match refused_known(tables, after, latest, limit) {
-        Some(why) => Outcome::Refused(why),
-        None => page_of(alloc, tables, row, options, after, limit),
+    match tables.group(group) {
+        Some(row) => match refused_known(tables, after, latest, limit) {
+            Some(why) => Outcome::Refused(why),
+            None => page_of(alloc, tables, row, options, after, limit),
+        },
+        None => Outcome::Refused(unknown_group(group)),
     }
 }
 

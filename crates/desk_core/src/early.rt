@@ -1,7 +1,9 @@
 //! The refusals that the rows alone show, in the order in which they are judged.
 ghost use Rattle.std.specs.Prelude.{◌≡◌, ◌∷◌, []};
 ghost use Rattle.desk_base.specs.Keys.{id_key};
-ghost use Rattle.desk_base.specs.Refusing.{cited_by, has_place, places_for, refused_entry, unknown_among, refused_field, refused_place};
+ghost use Rattle.desk_base.specs.Refusing.{cited_by, has_place, places_for, is_booked, refused_booked, refused_entry, refused_number, unknown_among, refused_field, refused_place, early_refusal};
+ghost use Rattle.desk_base.specs.Callers.{last_number};
+ghost use Rattle.std.specs.Option.{option_or};
 ghost use Rattle.desk_base.specs.TableLimits.{limit_of};
 ghost use Rattle.desk_base.specs.declared.tables.Tables.{Tables};
 ghost use Rattle.desk_base.specs.Rows.{citations_of, rules_of};
@@ -14,7 +16,7 @@ use crate::callers::{last_number, refused_number};
 use crate::group_rules::broken_group;
 use crate::row_rules::{broken_calendar, broken_named, broken_resource, broken_work, broken_zone};
 use desk_base::{
-    Act, AnyRow, Call, Entry, Field, Key, Refusal, ResourceRow, Table, Tables,
+    Act, AnyRow, Call, Entry, Field, GroupId, Key, Refusal, ResourceRow, Table, Tables,
 };
 
 /// Entries of a journal, at most.
@@ -196,4 +198,87 @@ fn refused_place(tables: &Tables, call: &Call, act: &Act) -> Option<Refusal>
         return Some(Refusal::Full(Table::Caller));
     }
     None
+}
+
+/// Bookings of the group stand.
+fn is_booked(tables: &Tables, group: GroupId) -> bool
+    ensures { result ≡ is_booked tables.now group }
+{
+    tables
+        .bookings
+        .as_slice()
+        .iter()
+        .any(|b| b.group.get() == group.get())
+}
+
+/// Why the group is not open.
+fn refused_booked(tables: &Tables, act: &Act) -> Option<Refusal>
+    requires { IsServed act.now }
+    ensures { result ≡ refused_booked tables.now act.now }
+{
+    match act {
+        Act::Put(_) => None,
+        Act::PutGroup(group) => {
+            if is_booked(tables, group.id) {
+                Some(Refusal::NotOpen(group.id))
+            } else {
+                None
+            }
+        }
+        _ => unreachable!(),
+    }
+}
+
+/// Why no change of this number can be entered.
+fn refused_call(tables: &Tables, journal: &[Entry], call: &Call) -> Option<Refusal>
+    ensures { result ≡ option_or (refused_entry tables.now journal.now) (refused_number (last_number tables.now call.now.caller) call.now.number) }
+{
+    match refused_entry(tables, journal) {
+        Some(why) => Some(why),
+        None => refused_number(last_number(tables, call.caller), call.number.get()),
+    }
+}
+
+/// Why what the act says is wrong.
+fn refused_content(tables: &Tables, act: &Act) -> Option<Refusal>
+    requires sound { IsSound tables.now }
+    requires served { IsServed act.now }
+    ensures { result ≡ option_or (unknown_among tables.now (cited_by act.now)) (refused_field tables.now act.now) }
+{
+    match unknown(tables, act) {
+        Some(why) => Some(why),
+        None => refused_field(tables, act),
+    }
+}
+
+/// Why the act has no room among what stands.
+fn refused_among(tables: &Tables, call: &Call, act: &Act) -> Option<Refusal>
+    requires sound { IsSound tables.now }
+    requires served { IsServed act.now }
+    ensures { result ≡ option_or (refused_place tables.now call.now act.now) (refused_booked tables.now act.now) }
+{
+    match refused_place(tables, call, act) {
+        Some(why) => Some(why),
+        None => refused_booked(tables, act),
+    }
+}
+
+/// The first refusal of a served change that the rows alone show.
+pub(crate) fn early_refusal(
+    tables: &Tables,
+    journal: &[Entry],
+    call: &Call,
+    act: &Act,
+) -> Option<Refusal>
+    requires sound { IsSound tables.now }
+    requires served { IsServed act.now }
+    ensures { result ≡ early_refusal tables.now journal.now call.now act.now }
+{
+    match refused_call(tables, journal, call) {
+        Some(why) => Some(why),
+        None => match refused_content(tables, act) {
+            Some(why) => Some(why),
+            None => refused_among(tables, call, act),
+        },
+    }
 }

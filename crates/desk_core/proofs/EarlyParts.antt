@@ -1,0 +1,54 @@
+-- The refusals of a served change that rows show are those of its call, of what it says, and of what stands.
+use Rattle.std.proofs.Common.{◌≡◌, ℕ, [], ◌∷◌, length, Option, Some, None, refl, sym, ap, ◌∙◌, subst}
+use Rattle.std.specs.Option.{option_or}
+use Rattle.std.specs.Prelude.{List, option_map}
+use Rattle.desk_base.specs.declared.tables.Tables.{Tables}
+use Rattle.desk_base.specs.declared.group_rows.Node.{Node}
+use Rattle.desk_base.specs.declared.group_rows.GroupRow.{GroupRow}
+use Rattle.desk_base.specs.declared.group_rows.Leaf.{Leaf}
+use Rattle.desk_base.specs.declared.refusals.Refusal.{Refusal}
+use Rattle.desk_base.specs.declared.refusals.Refusal.TheVariants.{BadTree}
+use Rattle.desk_base.specs.declared.changes.Act.{Act}
+use Rattle.desk_base.specs.declared.changes.Act.TheVariants as act
+use Rattle.desk_base.specs.declared.changes.Call.{Call}
+use Rattle.desk_base.specs.declared.changes.Entry.{Entry}
+use Rattle.desk_base.specs.Callers.{last_number}
+use Rattle.desk_base.specs.TreeRules.{tree_fault}
+use Rattle.desk_base.specs.Refusing.{refused_entry, refused_number, unknown_among, cited_by, refused_field, refused_tree, refused_removal, refused_place, refused_booked, refused_open, early_refusal}
+use Rattle.desk_core.specs.Built.{IsServed, HasPlainLeaf, lone_leaf}
+
+pub or-none : {A : Type 0} (x : Option A) → option_or x None ≡ x
+or-none None = refl
+or-none (Some x) = refl
+
+pub or-or : {A : Type 0} (x y z : Option A) → option_or (option_or x y) z ≡ option_or x (option_or y z)
+or-or None y z = refl
+or-or (Some x) y z = refl
+
+-- the tree of one plain leaf breaks no rule
+no_fault : (g : GroupRow) → HasPlainLeaf g → refused_tree (act.PutGroup g) ≡ None
+no_fault g h = ap (λ (n : List Node). option_map (λ f. BadTree f.rule f.node) (tree_fault n (length g.leaves))) h.nodes ∙ ap (λ (l : List Leaf). option_map (λ f. BadTree f.rule f.node) (tree_fault (lone_leaf ∷ []) (length l))) h.leaves
+
+-- the first of a call's refusals, of those of what is said, and of those of what stands
+abbrev pub in_parts : Tables → List Entry → Call → Act → Option Refusal
+in_parts t journal call a =
+    option_or (option_or (refused_entry t journal) (refused_number (last_number t call.caller) call.number))
+    (option_or (option_or (unknown_among t (cited_by a)) (refused_field t a)) (option_or (refused_place t call a) (refused_booked t a)))
+
+join : (e n u f tree place booked : Option Refusal) → tree ≡ None
+    → option_or (option_or e n) (option_or (option_or u f) (option_or place booked)) ≡ option_or e (option_or n (option_or u (option_or f (option_or tree (option_or None (option_or place (option_or booked (option_or None None))))))))
+join e n u f tree place booked h =
+    or-or e n (option_or (option_or u f) (option_or place booked))
+    ∙ ap (λ x. option_or e (option_or n x)) (or-or u f (option_or place booked))
+    ∙ ap (λ x. option_or e (option_or n (option_or u (option_or f (option_or place x))))) (sym (or-none booked))
+    ∙ ap (λ x. option_or e (option_or n (option_or u (option_or f (option_or x (option_or place (option_or booked None))))))) (sym h)
+
+pub early-parts : (t : Tables) (journal : List Entry) (call : Call) (a : Act) → IsServed a → in_parts t journal call a ≡ early_refusal t journal call a
+unfolding early_refusal
+early-parts t journal call (act.Put row) s = join (refused_entry t journal) (refused_number (last_number t call.caller) call.number) (unknown_among t (cited_by (act.Put row))) (refused_field t (act.Put row)) None (refused_place t call (act.Put row)) (refused_booked t (act.Put row)) refl
+early-parts t journal call (act.PutGroup g) s = join (refused_entry t journal) (refused_number (last_number t call.caller) call.number) (unknown_among t (cited_by (act.PutGroup g))) (refused_field t (act.PutGroup g)) (refused_tree (act.PutGroup g)) (refused_place t call (act.PutGroup g)) (refused_booked t (act.PutGroup g)) (no_fault g s)
+early-parts t journal call (act.Remove key) s = absurd s
+early-parts t journal call (act.DropGroup group) s = absurd s
+early-parts t journal call (act.BookGroup group start picks) s = absurd s
+early-parts t journal call (act.MoveGroup group start picks) s = absurd s
+early-parts t journal call (act.CancelGroup group) s = absurd s
