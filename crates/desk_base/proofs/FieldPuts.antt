@@ -1,5 +1,5 @@
 -- The rows of sound tables keep their field rules where a row is put that suits them.
-use Rattle.std.proofs.Common.{◌≡◌, ℕ, Bool, true, false, not, cond, ◌&&◌, ◌==◌, List, [], ◌∷◌, map, Some, None, ◌⊎◌, inl, inr, refl, sym, ap, ◌∙◌, subst, is_none}
+use Rattle.std.proofs.Common.{◌≡◌, true, false, not, cond, ◌&&◌, ◌==◌, List, [], ◌∷◌, map, Some, None, ◌⊎◌, inl, inr, refl, sym, ap, ◌∙◌, subst, is_none}
 use Rattle.std.proofs.lemmas.Bool.{not-true}
 use Rattle.std.specs.List.{list_any, AllByRecursion}
 use Rattle.desk_base.specs.Types.{Tables, AnyRow, WorkRow, DayRow, ResourceRow, MemberRow}
@@ -8,7 +8,7 @@ use Rattle.desk_base.specs.declared.tables.AnyRow.TheVariants.{Work, Day, Resour
 use Rattle.desk_base.specs.Rules.{first_broken}
 use Rattle.desk_base.specs.Keys.{id_key}
 use Rattle.desk_base.specs.Rows.{rows_in, key_of}
-use Rattle.desk_base.specs.Fields.{Rules, work_rules, day_rules, resource_rules, member_rules, is_group, is_plain, are_of_one_kind, is_same_membership, overlaps}
+use Rattle.desk_base.specs.Fields.{Rules, work_rules, day_rules, resource_rules, member_rules, is_group, is_plain, is_same_membership, overlaps}
 use Rattle.desk_base.specs.Changes.{with_row}
 use Rattle.desk_base.specs.Sound.{IsSound, keeps_fields}
 use Rattle.desk_base.proofs.Members.{IsIn, in-map, in_mapped}

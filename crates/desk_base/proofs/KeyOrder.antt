@@ -1,5 +1,5 @@
 -- Keys that are equal in their order are one.
-use Rattle.std.proofs.Common.{◌≡◌, ℕ, Bool, true, ◌==◌, refl, sym, ap, ◌∙◌, if◌then◌else◌}
+use Rattle.std.proofs.Common.{◌≡◌, ℕ, true, ◌==◌, refl, sym, ap, ◌∙◌, if◌then◌else◌}
 use Rattle.std.proofs.lemmas.Bool.{false≢true}
 use Rattle.std.proofs.lemmas.Cmp.{ranked, tied_itself}
 use Rattle.std.specs.declared.cmp.Ordering.{Ordering}

@@ -1,5 +1,5 @@
 -- Resources keep their kinds where a row is put.
-use Rattle.std.proofs.Common.{◌≡◌, ℕ, Bool, true, false, cond, ◌&&◌, ◌==◌, List, [], ◌∷◌, map, Option, Some, None, ◌⊎◌, inl, inr, refl, sym, ap, ◌∙◌, subst, arith, if◌then◌else◌, is_none}
+use Rattle.std.proofs.Common.{◌≡◌, ℕ, Bool, true, false, cond, ◌==◌, List, [], ◌∷◌, Option, Some, None, inl, inr, refl, sym, ap, ◌∙◌, arith, if◌then◌else◌, is_none}
 use Rattle.std.proofs.lemmas.Bool.{false≢true}
 use Rattle.std.proofs.lemmas.Bool.Decides.{nat_tests}
 use Rattle.std.specs.Prelude.{find}
@@ -18,7 +18,7 @@ use Rattle.desk_base.specs.Fields.{keeps_kind, resource_rules, are_of_one_kind}
 use Rattle.desk_base.specs.Changes.{with_row}
 use Rattle.desk_base.specs.Sound.{IsSound, keeps_fields}
 use Rattle.desk_base.proofs.Members.{IsIn, in-map, in_mapped}
-use Rattle.desk_base.proofs.Tests.{and_left, find_cases, list_any_from}
+use Rattle.desk_base.proofs.Tests.{and_left, find_cases}
 use Rattle.desk_base.proofs.Shapes.{rules_kept, none_from}
 use Rattle.desk_base.proofs.Suits.{Suits, put_keeps}
 use Rattle.desk_base.proofs.RowPuts.{in_put, key_stays}

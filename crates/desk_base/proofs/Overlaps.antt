@@ -1,5 +1,5 @@
 -- Rows that do not meet: the test is the same both ways, and it stays false with a row that meets none of the others.
-use Rattle.std.proofs.Common.{◌≡◌, ℕ, Bool, true, false, not, ◌&&◌, ◌==◌, nat_lt, max, min, List, [], ◌∷◌, Option, Some, None, ◌⊎◌, inl, inr, refl, sym, ap, ◌∙◌, subst, arith}
+use Rattle.std.proofs.Common.{◌≡◌, ℕ, Bool, true, false, not, ◌&&◌, ◌==◌, nat_lt, max, min, List, Option, Some, None, ◌⊎◌, inl, inr, refl, sym, ap, ◌∙◌, subst, arith}
 use Rattle.std.proofs.lemmas.Bool.{false≢true, false_from_ne_true}
 use Rattle.std.proofs.lemmas.Bool.Decides.{nat_tests}
 use Rattle.std.specs.List.{list_any}
@@ -87,7 +87,7 @@ membership-itself x = λ i. eq-itself x.group i && eq-itself x.member i && eq-it
 
 kinds-swap : (p q : Option ResourceRow)
     → option_map_or (λ (x : ResourceRow). option_map_or (λ (y : ResourceRow). kind_number x.kind == kind_number y.kind) q false) p false
-      ≡ option_map_or (λ (y : ResourceRow). option_map_or (λ (x : ResourceRow). kind_number y.kind == kind_number x.kind) p false) q false
+    ≡ option_map_or (λ (y : ResourceRow). option_map_or (λ (x : ResourceRow). kind_number y.kind == kind_number x.kind) p false) q false
 kinds-swap None None = refl
 kinds-swap None (Some y) = refl
 kinds-swap (Some x) None = refl

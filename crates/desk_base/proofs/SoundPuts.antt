@@ -1,5 +1,5 @@
 -- Sound tables stay sound with a row that suits them.
-use Rattle.std.proofs.Common.{◌≡◌, ℕ, suc, ◌<◌, ◌≤◌, Bool, true, false, not, cond, ◌&&◌, ◌||◌, ◌==◌, nat_le, nat_lt, List, [], ◌∷◌, map, filter, length, ◌⊎◌, inl, inr, refl, sym, ap, ◌∙◌, subst, arith}
+use Rattle.std.proofs.Common.{◌≡◌, ℕ, ◌≤◌, Bool, true, false, cond, ◌&&◌, ◌||◌, ◌==◌, nat_le, nat_lt, List, [], ◌∷◌, map, filter, length, ◌⊎◌, inl, inr, refl, sym, ap, ◌∙◌, subst, arith}
 use Rattle.std.proofs.lemmas.Bool.{false≢true, not-true, or_cases, ltb-true}
 use Rattle.std.proofs.lemmas.Bool.Decides.{nat_tests}
 use Rattle.std.proofs.lemmas.Cmp.{tied_itself}
@@ -9,7 +9,7 @@ use Rattle.std.specs.List.{list_all, list_any}
 use Rattle.std.specs.List.Sorted.{IsStrictlySortedBy}
 use Rattle.desk_base.specs.Types.{Tables, Table, Key, AnyRow, GroupRow, BookingRow}
 use Rattle.desk_base.specs.declared.tables.Table.TheVariants.{Group as GroupTable, Booking as BookingTable}
-use Rattle.desk_base.specs.declared.tables.AnyRow.TheVariants.{Zone, Group, Booking}
+use Rattle.desk_base.specs.declared.tables.AnyRow.TheVariants.{Group, Booking}
 use Rattle.desk_base.specs.declared.rules.TableRule.TheVariants.{Booked, Count}
 use Rattle.desk_base.specs.Limits.{revision_limit, serial_limit}
 use Rattle.desk_base.specs.TableLimits.{limit_of}
@@ -17,15 +17,15 @@ use Rattle.desk_base.specs.Keys.{key_cmp, id_key}
 use Rattle.desk_base.specs.Rows.{rows_in, key_of, keys_in, citations_of}
 use Rattle.desk_base.specs.Load.{Fits, ask_of}
 use Rattle.desk_base.specs.Groups.{is_booked}
-use Rattle.desk_base.specs.Refusing.{is_there, has_place}
+use Rattle.desk_base.specs.Refusing.{is_there}
 use Rattle.desk_base.specs.Changes.{with_one, with_row}
 use Rattle.desk_base.specs.Sound.{IsSound, IsBooked, keeps_fields, bookings_of, is_counted}
-use Rattle.desk_base.proofs.Members.{IsIn, in-map, in_mapped, in_from_contains, contains_from_in}
-use Rattle.desk_base.proofs.Tests.{and_both, list_all_from, list_any_from}
-use Rattle.desk_base.proofs.Sounds.{key_total, key_table, keys_rise, few_keys, cites_there, IsSoundByTable, sound_by_table}
+use Rattle.desk_base.proofs.Members.{in-map, in_mapped, in_from_contains, contains_from_in}
+use Rattle.desk_base.proofs.Tests.{list_all_from, list_any_from}
+use Rattle.desk_base.proofs.Sounds.{key_total, keys_rise, few_keys, cites_there, sound_by_table}
 use Rattle.desk_base.proofs.Overlaps.{none_at}
 use Rattle.desk_base.proofs.WithOne.{rises-with_one, length_more, length_stays}
-use Rattle.desk_base.proofs.RowPuts.{own_rows, rows_cases, in_put}
+use Rattle.desk_base.proofs.RowPuts.{rows_cases, in_put}
 use Rattle.desk_base.proofs.Suits.{Suits, is_unbooked, key_there, put_cites, own_table}
 use Rattle.desk_base.proofs.FieldPuts.{new_or_old, fields_put}
 
@@ -74,10 +74,11 @@ module _ (t : Tables) (row : AnyRow) (s : IsSound t) (fit : Suits t row) where
   put_citation : (table : Table) → list_all (cites_there (with_row t row)) (rows_in (with_row t row) table) ≡ true
   put_citation table = list_all_from (cites_there (with_row t row)) (rows_in (with_row t row) table) (λ x i.
       list_all_from (λ (c : Key). list_any (λ (k : Key). (k.a == c.a) && ((k.b == c.b) && (k.c == c.c))) (keys_in (with_row t row) c.table)) (citations_of x) (λ c j.
-          list_any_from (λ (k : Key). (k.a == c.a) && ((k.b == c.b) && (k.c == c.c))) (keys_in (with_row t row) c.table) c (put_cites t row s fit table x c i j) (numbers_itself c)))
+      list_any_from (λ (k : Key). (k.a == c.a) && ((k.b == c.b) && (k.c == c.c))) (keys_in (with_row t row) c.table) c (put_cites t row s fit table x c i j) (numbers_itself c)))
     where
       number_itself : (n : ℕ) → (n == n) ≡ true
       number_itself n = grind (arith, nat_tests)
+
       numbers_itself : (c : Key) → ((c.a == c.a) && ((c.b == c.b) && (c.c == c.c))) ≡ true
       numbers_itself c = λ i. number_itself c.a i && (number_itself c.b i && number_itself c.c i)
 
@@ -97,7 +98,7 @@ none_filtered p (x ∷ xs) e = ap (λ b. cond b (x ∷ filter p xs) (filter p xs
     rest false h = h
 
 -- a group of the same bookings is booked as before
-booked_alike : (t u : Tables) (g : GroupRow) → u.bookings ≡ t.bookings → (bookings_of t g ≡ []) ⊎ IsBooked t g → (bookings_of u g ≡ []) ⊎ IsBooked u g
+pub booked_alike : (t u : Tables) (g : GroupRow) → u.bookings ≡ t.bookings → (bookings_of t g ≡ []) ⊎ IsBooked t g → (bookings_of u g ≡ []) ⊎ IsBooked u g
 booked_alike t u g e (inl h) = inl (ap (filter (λ (b : BookingRow). b.group == g.id)) e ∙ h)
 booked_alike t u g e (inr h) = inr (record {
   start = h.start;

@@ -1,7 +1,5 @@
 -- What a row must bring that is put among sound rows, and what the tables with it keep of the rows before.
-use Rattle.std.proofs.Common.{◌≡◌, ℕ, Bool, true, false, not, ◌&&◌, ◌||◌, ◌==◌, List, [], ◌∷◌, map, filter, Option, Some, None, ◌⊎◌, inl, inr, refl, sym, ap, ◌∙◌, subst, is_none}
-use Rattle.std.proofs.lemmas.Bool.{false≢true}
-use Rattle.std.proofs.lemmas.Bool.Decides.{nat_tests}
+use Rattle.std.proofs.Common.{◌≡◌, Bool, true, false, not, inl, inr, refl, sym, subst}
 use Rattle.std.specs.List.{list_all}
 use Rattle.desk_base.specs.Types.{Tables, Table, Key, AnyRow}
 use Rattle.desk_base.specs.declared.tables.AnyRow.TheVariants.{Group, Booking}

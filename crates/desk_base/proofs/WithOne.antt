@@ -1,5 +1,5 @@
 -- Lists of rows with one more, which stands in the place of the row of its key: their rows, their order and their length.
-use Rattle.std.proofs.Common.{◌≡◌, ℕ, suc, ◌+◌, ◌≤◌, Bool, true, false, cond, List, [], ◌∷◌, ◌++◌, map, filter, length, ◌⊎◌, inl, inr, refl, sym, ap, ◌∙◌, subst, arith, length-append}
+use Rattle.std.proofs.Common.{◌≡◌, suc, ◌+◌, ◌≤◌, Bool, true, false, cond, List, [], ◌∷◌, ◌++◌, map, filter, length, ◌⊎◌, inl, inr, refl, sym, ap, ◌∙◌, subst, arith, length-append}
 use Rattle.std.proofs.lemmas.Bool.{false≢true}
 use Rattle.std.specs.List.Sorted.{IsStrictlySortedBy}
 use Rattle.std.specs.declared.cmp.Ordering.{Ordering}
@@ -100,11 +100,11 @@ module _ {R : Type 0} (key : R → Key) where
       let above = rows_above key (key x) rows in
       subst (IsStrictlySortedBy key_cmp) (sym (map-append below (x ∷ above)))
       (sorted-append key_cmp (map key below) (key x ∷ map key above) (filtered_rise (λ z. is_below (key z) (key x)) rows s)
-        (all_from (λ k. key_cmp (key x) k ≡ Less) (map key above) (λ k i. above_is (key x) k rows i), filtered_rise (λ z. is_below (key x) (key z)) rows s)
-        (λ k j i h. elim h [
-          | inl e ↦ subst (λ l. key_cmp k l ≡ Less) (sym e) (below_is (key x) k rows i)
-          | inr a ↦ key_total.trans k (key x) j (below_is (key x) k rows i) (above_is (key x) j rows a)
-        ]))
+      (all_from (λ k. key_cmp (key x) k ≡ Less) (map key above) (λ k i. above_is (key x) k rows i), filtered_rise (λ z. is_below (key x) (key z)) rows s)
+      (λ k j i h. elim h [
+        | inl e ↦ subst (λ l. key_cmp k l ≡ Less) (sym e) (below_is (key x) k rows i)
+        | inr a ↦ key_total.trans k (key x) j (below_is (key x) k rows i) (above_is (key x) j rows a)
+      ]))
 
   -- ---- their length
 
