@@ -1,5 +1,5 @@
 -- Sound tables stay sound after an act that puts a row.
-use Rattle.std.proofs.Common.{◌≡◌, ◌≢◌, ℕ, ◌+◌, Bool, true, false, ◌&&◌, ◌||◌, nat_le, nat_lt, map, length, refl, sym, ap, ◌∙◌, subst, arith}
+use Rattle.std.proofs.Common.{◌≡◌, ◌≢◌, ℕ, ◌+◌, ◌<◌, Bool, true, false, ◌&&◌, ◌||◌, nat_le, nat_lt, map, length, refl, sym, ap, ◌∙◌, subst, arith}
 use Rattle.std.proofs.lemmas.Bool.{false≢true}
 use Rattle.std.proofs.lemmas.Bool.Decides.{nat_tests}
 use Rattle.std.specs.Prelude.{Contains}
@@ -63,18 +63,31 @@ sound_counted t revision last s h = record { keeps = counted_keeps t revision la
 next_revision : (n : ℕ) → nat_le n revision_limit ≡ true → n ≢ revision_limit → nat_le (n + 1) revision_limit ≡ true
 next_revision n h k = grind (arith, nat_tests)
 
+-- each counter is within its limit, and no booking is above its own
+counts_kept : (t : Tables) → is_counted t ≡ true → (nat_le t.revision revision_limit ≡ true) × (nat_le t.last_booking serial_limit ≡ true) × (list_all (λ (b : BookingRow). nat_le b.id t.last_booking) t.bookings ≡ true)
+counts_kept t h =
+    let both = nat_le t.revision revision_limit && nat_le t.last_booking serial_limit in
+    let numbered = list_all (λ (b : BookingRow). nat_le b.id t.last_booking) t.bookings in
+    let first = and_left both numbered h in
+    (and_left (nat_le t.revision revision_limit) (nat_le t.last_booking serial_limit) first, and_right (nat_le t.revision revision_limit) (nat_le t.last_booking serial_limit) first, and_right both numbered h)
+
+-- the next revision leaves sound tables sound
+pub sound_next_revision : (t : Tables) → IsSound t → t.revision < revision_limit → IsSound (record t { revision = t.revision + 1 })
+sound_next_revision t s l =
+    let c = counts_kept t (s.keeps Count (id_key BookingTable 0) refl) in
+    let revision = next_revision t.revision c.0 (omega arith) in
+    sound_counted t (t.revision + 1) t.last_booking s (λ i. revision i && c.1 i && c.2 i)
+
 no_more : (n : ℕ) → n + 0 ≡ n
 no_more n = omega arith
 
 -- the counters after an act that makes no booking
 pub next_counted : (t : Tables) → is_counted t ≡ true → t.revision ≢ revision_limit → is_counted (counted t (t.revision + 1) (t.last_booking + 0)) ≡ true
 next_counted t h k =
-    let first = and_left (nat_le t.revision revision_limit && nat_le t.last_booking serial_limit) (list_all (λ (b : BookingRow). nat_le b.id t.last_booking) t.bookings) h in
-    let revision = next_revision t.revision (and_left (nat_le t.revision revision_limit) (nat_le t.last_booking serial_limit) first) k in
-    let last = ap (λ n. nat_le n serial_limit) (no_more t.last_booking) ∙ and_right (nat_le t.revision revision_limit) (nat_le t.last_booking serial_limit) first in
-    let bookings =
-    ap (λ n. list_all (λ (b : BookingRow). nat_le b.id n) t.bookings) (no_more t.last_booking)
-    ∙ and_right (nat_le t.revision revision_limit && nat_le t.last_booking serial_limit) (list_all (λ (b : BookingRow). nat_le b.id t.last_booking) t.bookings) h in
+    let c = counts_kept t h in
+    let revision = next_revision t.revision c.0 k in
+    let last = ap (λ n. nat_le n serial_limit) (no_more t.last_booking) ∙ c.1 in
+    let bookings = ap (λ n. list_all (λ (b : BookingRow). nat_le b.id n) t.bookings) (no_more t.last_booking) ∙ c.2 in
     λ i. revision i && last i && bookings i
 
 -- ---- the row and the caller's row, one after the other

@@ -1,5 +1,5 @@
 -- The rows of sound tables keep their field rules where a row is put that suits them.
-use Rattle.std.proofs.Common.{◌≡◌, true, false, not, cond, ◌&&◌, ◌==◌, List, [], ◌∷◌, map, Some, None, ◌⊎◌, inl, inr, refl, sym, ap, ◌∙◌, subst, is_none}
+use Rattle.std.proofs.Common.{◌≡◌, true, false, not, cond, ◌&&◌, ◌==◌, [], ◌∷◌, map, Some, None, inl, inr, refl, sym, ap, ◌∙◌, is_none}
 use Rattle.std.proofs.lemmas.Bool.{not-true}
 use Rattle.std.specs.List.{list_any, AllByRecursion}
 use Rattle.desk_base.specs.Types.{Tables, AnyRow, WorkRow, DayRow, ResourceRow, MemberRow}
@@ -11,13 +11,14 @@ use Rattle.desk_base.specs.Rows.{rows_in, key_of}
 use Rattle.desk_base.specs.Fields.{Rules, work_rules, day_rules, resource_rules, member_rules, is_group, is_plain, is_same_membership, overlaps}
 use Rattle.desk_base.specs.Changes.{with_row}
 use Rattle.desk_base.specs.Sound.{IsSound, keeps_fields}
-use Rattle.desk_base.proofs.Members.{IsIn, in-map, in_mapped}
+use Rattle.desk_base.proofs.Members.{IsIn, in_mapped}
 use Rattle.desk_base.proofs.Tests.{and_left}
 use Rattle.desk_base.proofs.Shapes.{rules_kept, none_from}
 use Rattle.desk_base.proofs.Overlaps.{none_at, none_from_each, none_met, works_meet, works_meet-swap, works_meet-itself, days_meet, days_meet-swap, days_meet-itself, members_meet, members_meet-swap, members_meet-itself}
+use Rattle.desk_base.proofs.AnyRows.{same_work, same_day, same_resource, same_member, in_back, new_or_old}
 use Rattle.desk_base.proofs.RowPuts.{in_put}
 use Rattle.desk_base.proofs.Suits.{Suits, put_keeps, put_cited_before}
-use Rattle.desk_base.proofs.KindPuts.{same_resource, kinds_put, sort_put, one_kind_put}
+use Rattle.desk_base.proofs.KindPuts.{kinds_put, sort_put, one_kind_put}
 
 -- ---- rules that hold, one by one
 
@@ -30,41 +31,6 @@ keeps_from rules h = ap (λ o. is_none o && true) (unbroken rules h)
 
 kept_in : (rules : Rules) → (is_none (first_broken rules) && true) ≡ true → AllByRecursion (λ x. x.0 ≡ true) rules
 kept_in rules e = rules_kept rules (none_from (first_broken rules) (and_left (is_none (first_broken rules)) true e))
-
--- ---- rows behind their constructors
-
-work_or : WorkRow → AnyRow → WorkRow
-work_or d (Work x) = x
-work_or d _ = d
-
-same_work : (x y : WorkRow) → Work x ≡ Work y → x ≡ y
-unfolding work_or
-same_work x y e = ap (work_or x) e
-
-day_or : DayRow → AnyRow → DayRow
-day_or d (Day x) = x
-day_or d _ = d
-
-same_day : (x y : DayRow) → Day x ≡ Day y → x ≡ y
-unfolding day_or
-same_day x y e = ap (day_or x) e
-
-member_or : MemberRow → AnyRow → MemberRow
-member_or d (Member x) = x
-member_or d _ = d
-
-same_member : (x y : MemberRow) → Member x ≡ Member y → x ≡ y
-unfolding member_or
-same_member x y e = ap (member_or x) e
-
--- a row among those of its table
-pub in_back : {R : Type 0} (con : R → AnyRow) → ((x y : R) → con x ≡ con y → x ≡ y) → (xs : List R) (y : R) → IsIn (con y) (map con xs) → IsIn y xs
-in_back con same xs y i = let h = in-map con (con y) xs i in subst (λ z. IsIn z xs) (sym (same y h.0 h.2)) h.1
-
--- a row of the tables with a row is that one, or was there
-pub new_or_old : {R : Type 0} (con : R → AnyRow) → ((x y : R) → con x ≡ con y → x ≡ y) → (row : AnyRow) (xs : List R) (y : R) → (con y ≡ row) ⊎ IsIn (con y) (map con xs) → (con y ≡ row) ⊎ IsIn y xs
-new_or_old con same row xs y (inl e) = inl e
-new_or_old con same row xs y (inr i) = inr (in_back con same xs y i)
 
 module _ (t : Tables) (row : AnyRow) (s : IsSound t) (fit : Suits t row) where
   -- ---- work rows and day rows

@@ -1,7 +1,6 @@
 -- Resources keep their kinds where a row is put.
-use Rattle.std.proofs.Common.{◌≡◌, ℕ, Bool, true, false, cond, ◌==◌, List, [], ◌∷◌, Option, Some, None, inl, inr, refl, sym, ap, ◌∙◌, arith, if◌then◌else◌, is_none}
-use Rattle.std.proofs.lemmas.Bool.{false≢true}
-use Rattle.std.proofs.lemmas.Bool.Decides.{nat_tests}
+use Rattle.std.proofs.Common.{◌≡◌, ℕ, Bool, true, false, cond, ◌==◌, List, [], ◌∷◌, Option, Some, None, inl, inr, refl, sym, ap, ◌∙◌, if◌then◌else◌, is_none}
+use Rattle.std.proofs.lemmas.Bool.{false≢true, eqb-true, eq-eqb}
 use Rattle.std.specs.Prelude.{find}
 use Rattle.std.specs.Option.{option_map_or}
 use Rattle.desk_base.specs.Types.{Tables, Key, AnyRow, ResourceRow, Kind}
@@ -20,6 +19,7 @@ use Rattle.desk_base.specs.Sound.{IsSound, keeps_fields}
 use Rattle.desk_base.proofs.Members.{IsIn, in-map, in_mapped}
 use Rattle.desk_base.proofs.Tests.{and_left, find_cases}
 use Rattle.desk_base.proofs.Shapes.{rules_kept, none_from}
+use Rattle.desk_base.proofs.AnyRows.{same_resource}
 use Rattle.desk_base.proofs.Suits.{Suits, put_keeps}
 use Rattle.desk_base.proofs.RowPuts.{in_put, key_stays}
 
@@ -35,12 +35,6 @@ sort-number _ = refl
 -- kinds of one number are of one sort
 pub same_sort : (k l : Kind) → kind_number k ≡ kind_number l → sort_of_kind k ≡ sort_of_kind l
 same_sort k l e = sym (sort-number k) ∙ ap sort_by_number e ∙ sort-number l
-
-number_is : (m n : ℕ) → (m == n) ≡ true → m ≡ n
-number_is m n e = grind (arith, nat_tests)
-
-number_itself : (n : ℕ) → (n == n) ≡ true
-number_itself n = grind (arith, nat_tests)
 
 -- ---- resources by their ids
 
@@ -60,8 +54,8 @@ resource_found t a i =
     let g = in-map Resource h.0 t.resources h.1 in
     let same : g.0.id ≡ a = sym (ap (λ (k : Key). k.a) (h.2 ∙ ap key_of g.2)) in
     elim (find_cases (λ (z : ResourceRow). z.id == a) t.resources) [
-      | inl n ↦ absurd (none_found (λ (z : ResourceRow). z.id == a) t.resources g.0 n g.1 (ap (λ n. n == a) same ∙ number_itself a))
-      | inr r ↦ (r.0, r.1, number_is r.0.id a r.2, r.3)
+      | inl n ↦ absurd (none_found (λ (z : ResourceRow). z.id == a) t.resources g.0 n g.1 (ap (λ n. n == a) same ∙ eq-eqb a a refl))
+      | inr r ↦ (r.0, r.1, eqb-true r.0.id a r.2, r.3)
     ]
 
 -- ---- kinds with a row that is put
@@ -71,15 +65,7 @@ kind_kept t x e =
     let r = rules_kept (resource_rules t x) (none_from (first_broken (resource_rules t x)) (and_left (is_none (first_broken (resource_rules t x))) true e)) in r.1.0
 
 found_kind : (t : Tables) (x z : ResourceRow) → keeps_kind t x ≡ true → resource_of t x.id ≡ Some z → kind_number z.kind ≡ kind_number x.kind
-found_kind t x z e f = number_is (kind_number z.kind) (kind_number x.kind) (sym (ap (λ o. option_map_or (λ (y : ResourceRow). kind_number y.kind == kind_number x.kind) o true) f) ∙ e)
-
-resource_or : ResourceRow → AnyRow → ResourceRow
-resource_or d (Resource x) = x
-resource_or d _ = d
-
-pub same_resource : (x y : ResourceRow) → Resource x ≡ Resource y → x ≡ y
-unfolding resource_or
-same_resource x y e = ap (resource_or x) e
+found_kind t x z e f = eqb-true (kind_number z.kind) (kind_number x.kind) (sym (ap (λ o. option_map_or (λ (y : ResourceRow). kind_number y.kind == kind_number x.kind) o true) f) ∙ e)
 
 module _ (t : Tables) (row : AnyRow) (s : IsSound t) (fit : Suits t row) where
   kind_before : (x : ResourceRow) → IsIn x (with_row t row).resources → keeps_kind t x ≡ true
@@ -91,7 +77,7 @@ module _ (t : Tables) (row : AnyRow) (s : IsSound t) (fit : Suits t row) where
     | inl f ↦ f
     | inr j ↦
         let h = in-map Resource (Resource x) t.resources j in
-        absurd (none_found (λ (z : ResourceRow). z.id == a) t.resources h.0 n h.1 (ap (λ n. n == a) (sym (ap (λ (z : ResourceRow). z.id) (same_resource x h.0 h.2)) ∙ e) ∙ number_itself a))
+        absurd (none_found (λ (z : ResourceRow). z.id == a) t.resources h.0 n h.1 (ap (λ n. n == a) (sym (ap (λ (z : ResourceRow). z.id) (same_resource x h.0 h.2)) ∙ e) ∙ eq-eqb a a refl))
   ]
 
   -- rows of one id are of one kind
@@ -107,7 +93,7 @@ module _ (t : Tables) (row : AnyRow) (s : IsSound t) (fit : Suits t row) where
     | inl n ↦ ap (λ o. option_map_or (λ (x : ResourceRow). kind_number x.kind == kind_number y.kind) o true) n
     | inr r ↦
         ap (λ o. option_map_or (λ (x : ResourceRow). kind_number x.kind == kind_number y.kind) o true) r.3
-        ∙ ap (λ n. n == kind_number y.kind) (one_kind r.0 y r.1 j (number_is r.0.id y.id r.2)) ∙ number_itself (kind_number y.kind)
+        ∙ ap (λ n. n == kind_number y.kind) (one_kind r.0 y r.1 j (eqb-true r.0.id y.id r.2)) ∙ eq-eqb (kind_number y.kind) (kind_number y.kind) refl
   ]
 
   resource_kept : (a : ℕ) → IsIn (id_key ResourceTable a) (keys_in t ResourceTable) → (z u : ResourceRow) × (resource_of t a ≡ Some z) × (resource_of (with_row t row) a ≡ Some u) × (kind_number u.kind ≡ kind_number z.kind)

@@ -1,6 +1,6 @@
 -- Rows that do not meet: the test is the same both ways, and it stays false with a row that meets none of the others.
 use Rattle.std.proofs.Common.{◌≡◌, ℕ, Bool, true, false, not, ◌&&◌, ◌==◌, nat_lt, max, min, List, Option, Some, None, ◌⊎◌, inl, inr, refl, sym, ap, ◌∙◌, subst, arith}
-use Rattle.std.proofs.lemmas.Bool.{false≢true, false_from_ne_true}
+use Rattle.std.proofs.lemmas.Bool.{false≢true, false_from_ne_true, eq-eqb}
 use Rattle.std.proofs.lemmas.Bool.Decides.{nat_tests}
 use Rattle.std.specs.List.{list_any}
 use Rattle.std.specs.Option.{option_map_or}
@@ -34,9 +34,6 @@ none_met {R} meets swap itself IsNew one xs ys split each y i = none_from_each (
 eq-swap : (m n : ℕ) → (m == n) ≡ (n == m)
 eq-swap m n = grind (arith, nat_tests)
 
-eq-itself : (n : ℕ) → (n == n) ≡ true
-eq-itself n = grind (arith, nat_tests)
-
 max-swap : (m n : ℕ) → max m n ≡ max n m
 max-swap m n = omega arith
 
@@ -63,7 +60,7 @@ pub works_meet-swap : (x w : WorkRow) → works_meet x w ≡ works_meet w x
 works_meet-swap x w = λ i. eq-swap x.calendar w.calendar i && eq-swap x.weekday w.weekday i && not (eq-swap x.from w.from i) && overlaps-swap x.from x.to w.from w.to i
 
 pub works_meet-itself : (x : WorkRow) → works_meet x x ≡ false
-works_meet-itself x = third_fails (x.calendar == x.calendar) (x.weekday == x.weekday) (not (x.from == x.from)) (overlaps x.from x.to x.from x.to) (ap not (eq-itself x.from))
+works_meet-itself x = third_fails (x.calendar == x.calendar) (x.weekday == x.weekday) (not (x.from == x.from)) (overlaps x.from x.to x.from x.to) (ap not (eq-eqb x.from x.from refl))
 
 -- they are of one calendar and day, and overlap
 abbrev pub days_meet : DayRow → DayRow → Bool
@@ -73,7 +70,7 @@ pub days_meet-swap : (x d : DayRow) → days_meet x d ≡ days_meet d x
 days_meet-swap x d = λ i. eq-swap x.calendar d.calendar i && eq-swap x.day d.day i && not (eq-swap x.from d.from i) && overlaps-swap x.from x.to d.from d.to i
 
 pub days_meet-itself : (x : DayRow) → days_meet x x ≡ false
-days_meet-itself x = third_fails (x.calendar == x.calendar) (x.day == x.day) (not (x.from == x.from)) (overlaps x.from x.to x.from x.to) (ap not (eq-itself x.from))
+days_meet-itself x = third_fails (x.calendar == x.calendar) (x.day == x.day) (not (x.from == x.from)) (overlaps x.from x.to x.from x.to) (ap not (eq-eqb x.from x.from refl))
 
 -- they are of one member, in groups of one kind, and overlap
 abbrev pub members_meet : Tables → MemberRow → MemberRow → Bool
@@ -83,7 +80,7 @@ membership-swap : (x y : MemberRow) → is_same_membership x y ≡ is_same_membe
 membership-swap x y = λ i. eq-swap x.group y.group i && eq-swap x.member y.member i && eq-swap x.from y.from i
 
 membership-itself : (x : MemberRow) → is_same_membership x x ≡ true
-membership-itself x = λ i. eq-itself x.group i && eq-itself x.member i && eq-itself x.from i
+membership-itself x = λ i. eq-eqb x.group x.group refl i && eq-eqb x.member x.member refl i && eq-eqb x.from x.from refl i
 
 kinds-swap : (p q : Option ResourceRow)
     → option_map_or (λ (x : ResourceRow). option_map_or (λ (y : ResourceRow). kind_number x.kind == kind_number y.kind) q false) p false

@@ -55,8 +55,8 @@ all_there t (k ∷ keys) e = step (is_there t k) refl e (all_there t keys)
     step true h f more = and_both (is_there t k) (list_all (is_there t) keys) h (more f)
     step false h f more = absurd (false≢true (ap is_none f))
 
--- the refusals one by one
-record AreEarly (t : Tables) (journal : List Entry) (call : Call) (a : Act) : Type 0 where
+-- of the refusals of a change none applies
+record NoneApplies (t : Tables) (journal : List Entry) (call : Call) (a : Act) : Type 0 where
   entry : refused_entry t journal ≡ None
   known : unknown_among t (cited_by a) ≡ None
   field : refused_field t a ≡ None
@@ -64,7 +64,7 @@ record AreEarly (t : Tables) (journal : List Entry) (call : Call) (a : Act) : Ty
   place : refused_place t call a ≡ None
   booked : refused_booked t a ≡ None
 
-early_none : (t : Tables) (journal : List Entry) (call : Call) (a : Act) → early_refusal t journal call a ≡ None → AreEarly t journal call a
+early_none : (t : Tables) (journal : List Entry) (call : Call) (a : Act) → early_refusal t journal call a ≡ None → NoneApplies t journal call a
 unfolding early_refusal
 early_none t journal call a e =
     let one = or_none (refused_entry t journal) _ e in

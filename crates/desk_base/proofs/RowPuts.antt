@@ -3,10 +3,12 @@ use Rattle.std.proofs.Common.{◌≡◌, map, ◌⊎◌, inl, inr, refl, sym, su
 use Rattle.desk_base.specs.Types.{Tables, Table, Key, AnyRow}
 use Rattle.desk_base.specs.declared.tables.Table.TheVariants.{Zone as ZoneTable, Calendar as CalendarTable, Work as WorkTable, Break as BreakTable, Day as DayTable, Off as OffTable, Unit as UnitTable, Site as SiteTable, Role as RoleTable, Characteristic as CharacteristicTable, Territory as TerritoryTable, Resource as ResourceTable, HasRole as HasRoleTable, HasCharacteristic as HasCharacteristicTable, HasTerritory as HasTerritoryTable, Member as MemberTable, Group as GroupTable, Booking as BookingTable, Caller as CallerTable}
 use Rattle.desk_base.specs.declared.tables.AnyRow.TheVariants.{Zone, Calendar, Work, Break, Day, Off, Unit, Site, Role, Characteristic, Territory, Resource, HasRole, HasCharacteristic, HasTerritory, Member, Group, Booking, Caller}
+use Rattle.std.specs.List.Sorted.{IsStrictlySortedBy}
+use Rattle.desk_base.specs.Keys.{key_cmp}
 use Rattle.desk_base.specs.Rows.{rows_in, key_of, keys_in}
 use Rattle.desk_base.specs.Changes.{with_one, with_row}
 use Rattle.desk_base.proofs.Members.{IsIn}
-use Rattle.desk_base.proofs.WithOne.{in-with_one, in_new, key_kept, map-with_one}
+use Rattle.desk_base.proofs.WithOne.{in-with_one, in_new, key_kept, rises-with_one, map-with_one}
 
 -- the rows of the table of the row that is put
 pub own_rows : (t : Tables) (row : AnyRow) → rows_in (with_row t row) (key_of row).table ≡ with_one key_of row (rows_in t (key_of row).table)
@@ -82,7 +84,7 @@ rows_cases t row table = elim (other_rows t row table) [
 -- each row is the one that was put, or was there
 pub in_put : (t : Tables) (row : AnyRow) (table : Table) (x : AnyRow) → IsIn x (rows_in (with_row t row) table) → (x ≡ row) ⊎ IsIn x (rows_in t table)
 in_put t row table x i = elim (rows_cases t row table) [
-  | inl e ↦ in-with_one key_of row x (rows_in t table) (subst (IsIn x) e.1 i)
+  | inl e ↦ elim (in-with_one key_of row x (rows_in t table) (subst (IsIn x) e.1 i)) [ inl f ↦ inl f | inr f ↦ inr f.0 ]
   | inr e ↦ inr (subst (IsIn x) e i)
 ]
 
@@ -96,3 +98,10 @@ key_stays t row table k i = elim (rows_cases t row table) [
 -- the row is there
 pub row_is_there : (t : Tables) (row : AnyRow) → IsIn row (rows_in (with_row t row) (key_of row).table)
 row_is_there t row = subst (IsIn row) (sym (own_rows t row)) (in_new key_of row (rows_in t (key_of row).table))
+
+-- where the keys of each table rise, they do so with a row
+pub keys_rise_put : (t : Tables) (row : AnyRow) → ((table : Table) → IsStrictlySortedBy key_cmp (keys_in t table)) → (table : Table) → IsStrictlySortedBy key_cmp (keys_in (with_row t row) table)
+keys_rise_put t row rise table = elim (rows_cases t row table) [
+  | inl e ↦ subst (λ l. IsStrictlySortedBy key_cmp (map key_of l)) (sym e.1) (rises-with_one key_of row (rows_in t table) (rise table))
+  | inr e ↦ subst (λ l. IsStrictlySortedBy key_cmp (map key_of l)) (sym e) (rise table)
+]

@@ -1,19 +1,16 @@
 -- Sound tables stay sound with a row that suits them.
-use Rattle.std.proofs.Common.{◌≡◌, ℕ, ◌≤◌, Bool, true, false, cond, ◌&&◌, ◌||◌, ◌==◌, nat_le, nat_lt, List, [], ◌∷◌, map, filter, length, ◌⊎◌, inl, inr, refl, sym, ap, ◌∙◌, subst, arith}
-use Rattle.std.proofs.lemmas.Bool.{false≢true, not-true, or_cases, ltb-true}
-use Rattle.std.proofs.lemmas.Bool.Decides.{nat_tests}
-use Rattle.std.proofs.lemmas.Cmp.{tied_itself}
+use Rattle.std.proofs.Common.{◌≡◌, ◌≤◌, Bool, true, false, cond, ◌&&◌, ◌||◌, ◌==◌, nat_le, nat_lt, List, [], ◌∷◌, map, filter, length, ◌⊎◌, inl, inr, refl, sym, ap, ◌∙◌, subst, arith}
+use Rattle.std.proofs.lemmas.Bool.{false≢true, not-true, or_cases, ltb-true, eq-eqb}
 use Rattle.std.proofs.lemmas.List.{length-map}
 use Rattle.std.specs.Prelude.{Contains}
 use Rattle.std.specs.List.{list_all, list_any}
-use Rattle.std.specs.List.Sorted.{IsStrictlySortedBy}
 use Rattle.desk_base.specs.Types.{Tables, Table, Key, AnyRow, GroupRow, BookingRow}
 use Rattle.desk_base.specs.declared.tables.Table.TheVariants.{Group as GroupTable, Booking as BookingTable}
 use Rattle.desk_base.specs.declared.tables.AnyRow.TheVariants.{Group, Booking}
 use Rattle.desk_base.specs.declared.rules.TableRule.TheVariants.{Booked, Count}
 use Rattle.desk_base.specs.Limits.{revision_limit, serial_limit}
 use Rattle.desk_base.specs.TableLimits.{limit_of}
-use Rattle.desk_base.specs.Keys.{key_cmp, id_key}
+use Rattle.desk_base.specs.Keys.{id_key}
 use Rattle.desk_base.specs.Rows.{rows_in, key_of, keys_in, citations_of}
 use Rattle.desk_base.specs.Load.{Fits, ask_of}
 use Rattle.desk_base.specs.Groups.{is_booked}
@@ -22,12 +19,13 @@ use Rattle.desk_base.specs.Changes.{with_one, with_row}
 use Rattle.desk_base.specs.Sound.{IsSound, IsBooked, keeps_fields, bookings_of, is_counted}
 use Rattle.desk_base.proofs.Members.{in-map, in_mapped, in_from_contains, contains_from_in}
 use Rattle.desk_base.proofs.Tests.{list_all_from, list_any_from}
-use Rattle.desk_base.proofs.Sounds.{key_total, keys_rise, few_keys, cites_there, sound_by_table}
+use Rattle.desk_base.proofs.Sounds.{keys_rise, few_keys, cites_there, sound_by_table}
 use Rattle.desk_base.proofs.Overlaps.{none_at}
-use Rattle.desk_base.proofs.WithOne.{rises-with_one, length_more, length_stays}
-use Rattle.desk_base.proofs.RowPuts.{rows_cases, in_put}
+use Rattle.desk_base.proofs.WithOne.{length_more, length_stays}
+use Rattle.desk_base.proofs.RowPuts.{rows_cases, in_put, keys_rise_put}
+use Rattle.desk_base.proofs.AnyRows.{same_group, new_or_old}
 use Rattle.desk_base.proofs.Suits.{Suits, is_unbooked, key_there, put_cites, own_table}
-use Rattle.desk_base.proofs.FieldPuts.{new_or_old, fields_put}
+use Rattle.desk_base.proofs.FieldPuts.{fields_put}
 
 -- ---- what the row leaves as it is
 
@@ -39,12 +37,6 @@ rest_put t row e = (refl, refl, refl)
 -- ---- the rules, one by one
 
 module _ (t : Tables) (row : AnyRow) (s : IsSound t) (fit : Suits t row) where
-  put_order : (table : Table) → IsStrictlySortedBy key_cmp (keys_in (with_row t row) table)
-  put_order table = elim (rows_cases t row table) [
-    | inl e ↦ subst (λ l. IsStrictlySortedBy key_cmp (map key_of l)) (sym e.1) (rises-with_one key_of row (rows_in t table) (keys_rise t table s))
-    | inr e ↦ subst (λ l. IsStrictlySortedBy key_cmp (map key_of l)) (sym e) (keys_rise t table s)
-  ]
-
   few_rows : (table : Table) → length (rows_in t table) ≤ limit_of table
   few_rows table = subst (λ n. n ≤ limit_of table) (length-map (rows_in t table) key_of) (few_keys t table s)
 
@@ -52,7 +44,7 @@ module _ (t : Tables) (row : AnyRow) (s : IsSound t) (fit : Suits t row) where
   own_limit = elim (or_cases (is_there t (key_of row)) (nat_lt (length (rows_in t (key_of row).table)) (limit_of (key_of row).table)) fit.place) [
     | inl e ↦
         let h = in-map key_of (key_of row) (rows_in t (key_of row).table) (key_there t (key_of row) e) in
-        let l = length_stays key_of row h.0 (rows_in t (key_of row).table) h.1 (ap (λ k. key_cmp k (key_of row)) (sym h.2) ∙ tied_itself key_total (key_of row)) in
+        let l = length_stays key_of row h.0 (rows_in t (key_of row).table) h.1 (sym h.2) in
         let f = few_rows (key_of row).table in omega arith
     | inr e ↦
         let l = length_more key_of row (rows_in t (key_of row).table) in
@@ -74,13 +66,7 @@ module _ (t : Tables) (row : AnyRow) (s : IsSound t) (fit : Suits t row) where
   put_citation : (table : Table) → list_all (cites_there (with_row t row)) (rows_in (with_row t row) table) ≡ true
   put_citation table = list_all_from (cites_there (with_row t row)) (rows_in (with_row t row) table) (λ x i.
       list_all_from (λ (c : Key). list_any (λ (k : Key). (k.a == c.a) && ((k.b == c.b) && (k.c == c.c))) (keys_in (with_row t row) c.table)) (citations_of x) (λ c j.
-      list_any_from (λ (k : Key). (k.a == c.a) && ((k.b == c.b) && (k.c == c.c))) (keys_in (with_row t row) c.table) c (put_cites t row s fit table x c i j) (numbers_itself c)))
-    where
-      number_itself : (n : ℕ) → (n == n) ≡ true
-      number_itself n = grind (arith, nat_tests)
-
-      numbers_itself : (c : Key) → ((c.a == c.a) && ((c.b == c.b) && (c.c == c.c))) ≡ true
-      numbers_itself c = λ i. number_itself c.a i && (number_itself c.b i && number_itself c.c i)
+      list_any_from (λ (k : Key). (k.a == c.a) && ((k.b == c.b) && (k.c == c.c))) (keys_in (with_row t row) c.table) c (put_cites t row s fit table x c i j) (λ i. eq-eqb c.a c.a refl i && (eq-eqb c.b c.b refl i && eq-eqb c.c c.c refl i))))
 
   put_count : is_counted (with_row t row) ≡ true
   put_count =
@@ -108,14 +94,6 @@ booked_alike t u g e (inr h) = inr (record {
   each = λ j. ap (λ l. map ask_of (filter (λ (b : BookingRow). b.leaf == j) (filter (λ (b : BookingRow). b.group == g.id) l))) e ∙ h.each j;
 })
 
-group_or : GroupRow → AnyRow → GroupRow
-group_or d (Group x) = x
-group_or d _ = d
-
-same_group : (x y : GroupRow) → Group x ≡ Group y → x ≡ y
-unfolding group_or
-same_group x y e = ap (group_or x) e
-
 module _ (t : Tables) (row : AnyRow) (s : IsSound t) (fit : Suits t row) where
   put_booked : (g : GroupRow) → Contains (with_row t row).groups g → (bookings_of (with_row t row) g ≡ []) ⊎ IsBooked (with_row t row) g
   put_booked g c =
@@ -133,7 +111,7 @@ module _ (t : Tables) (row : AnyRow) (s : IsSound t) (fit : Suits t row) where
 -- a row that suits sound tables, and with which the standing bookings fit, leaves them sound
 pub sound_with_row : (t : Tables) (row : AnyRow) → IsSound t → Suits t row → Fits (with_row t row) (map ask_of t.bookings) → IsSound (with_row t row)
 sound_with_row t row s fit room = sound_by_table (with_row t row) (record {
-  order = put_order t row s fit;
+  order = keys_rise_put t row (λ table. keys_rise t table s);
   limit = put_limit t row s fit;
   field = put_field t row s fit;
   citation = put_citation t row s fit;

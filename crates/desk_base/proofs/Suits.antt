@@ -15,13 +15,13 @@ use Rattle.desk_base.proofs.Sounds.{key_table}
 use Rattle.desk_base.proofs.KeyOrder.{is_key-same, is_key-itself}
 use Rattle.desk_base.proofs.RowPuts.{in_put, key_stays}
 
--- it is no booking, and no group that has one
+-- the row is neither a booking nor a group that has one
 abbrev pub is_unbooked : Tables → AnyRow → Bool
 is_unbooked t (Group g) = not (is_booked t g.id)
 is_unbooked t (Booking b) = false
 is_unbooked t _ = true
 
--- each row that it names is there, it keeps its field rules and its tree rules, it has a place in its table, and nothing is booked by it
+-- each row that it names is there, it keeps its field rules and its tree rules, it has a place in its table, and it is neither a booking nor a group that has one
 pub record Suits (t : Tables) (row : AnyRow) : Type 0 where
   pub cited : list_all (is_there t) (citations_of row) ≡ true
   pub fields : keeps_fields t row ≡ true

@@ -1,6 +1,7 @@
 -- Lists of rows with one more, which stands in the place of the row of its key: their rows, their order and their length.
-use Rattle.std.proofs.Common.{◌≡◌, suc, ◌+◌, ◌≤◌, Bool, true, false, cond, List, [], ◌∷◌, ◌++◌, map, filter, length, ◌⊎◌, inl, inr, refl, sym, ap, ◌∙◌, subst, arith, length-append}
+use Rattle.std.proofs.Common.{◌≡◌, ◌≢◌, ℕ, suc, ◌+◌, ◌≤◌, Bool, true, false, cond, List, [], ◌∷◌, ◌++◌, map, filter, length, ◌⊎◌, inl, inr, refl, sym, ap, ◌∙◌, subst, arith, length-append}
 use Rattle.std.proofs.lemmas.Bool.{false≢true}
+use Rattle.std.proofs.lemmas.Cmp.{tied_itself}
 use Rattle.std.specs.List.Sorted.{IsStrictlySortedBy}
 use Rattle.std.specs.declared.cmp.Ordering.{Ordering}
 use Rattle.std.specs.declared.cmp.Ordering.TheVariants.{Less, Equal, Greater}
@@ -26,16 +27,26 @@ key_cases j k = go (key_cmp j k) refl
     go Equal e = inr (inr (same_key j k e))
     go Greater e = inr (inl (ap is_lt (key_total.antisymm k j ∙ ap ordering_reverse e)))
 
+not_below_itself : (k : Key) → is_below k k ≡ true → ⊥
+not_below_itself k h = false≢true (sym (ap is_lt (tied_itself key_total k)) ∙ h)
+
 module _ {R : Type 0} (key : R → Key) where
   -- ---- its rows
 
-  -- each is the new one or was there
-  pub in-with_one : (x y : R) (rows : List R) → IsIn y (with_one key x rows) → (y ≡ x) ⊎ IsIn y rows
+  -- a key that is below one, or above it, is another
+  below_is_other : (y x : R) → is_below (key y) (key x) ≡ true → key y ≢ key x
+  below_is_other y x h e = not_below_itself (key x) (ap (λ k. is_below k (key x)) (sym e) ∙ h)
+
+  above_is_other : (y x : R) → is_below (key x) (key y) ≡ true → key y ≢ key x
+  above_is_other y x h e = not_below_itself (key x) (ap (is_below (key x)) (sym e) ∙ h)
+
+  -- each is the new one, or was there and has another key
+  pub in-with_one : (x y : R) (rows : List R) → IsIn y (with_one key x rows) → (y ≡ x) ⊎ (IsIn y rows × (key y ≢ key x))
   unfolding with_one
   in-with_one x y rows i = elim (in-append y (rows_below key (key x) rows) (x ∷ rows_above key (key x) rows) i) [
-    | inl j ↦ inr (in-filter (λ z. is_below (key z) (key x)) y rows j).0
+    | inl j ↦ let h = in-filter (λ z. is_below (key z) (key x)) y rows j in inr (h.0, below_is_other y x h.1)
     | inr (inl e) ↦ inl e
-    | inr (inr j) ↦ inr (in-filter (λ z. is_below (key x) (key z)) y rows j).0
+    | inr (inr j) ↦ let h = in-filter (λ z. is_below (key x) (key z)) y rows j in inr (h.0, above_is_other y x h.1)
   ]
 
   -- the new one is there
@@ -134,15 +145,47 @@ module _ {R : Type 0} (key : R → Key) where
   length_in y [] i = absurd i
   length_in y (x ∷ rows) i = omega arith
 
+  none_at_key : (k : Key) (rows : List R) → ((y : R) → IsIn y rows → key y ≢ k) → ◌≡◌ {A = ℕ} (length (rows_at k rows)) 0
+  none_at_key k [] h = refl
+  none_at_key k (y ∷ rows) h = step (key_cmp (key y) k) refl (none_at_key k rows (λ z i. h z (inr i)))
+    where
+      step : (r : Ordering) → key_cmp (key y) k ≡ r → ◌≡◌ {A = ℕ} (length (rows_at k rows)) 0 → ◌≡◌ {A = ℕ} (length (cond (is_eq r) (y ∷ rows_at k rows) (rows_at k rows))) 0
+      step Less e f = f
+      step Equal e f = absurd (h y (inl refl) (same_key (key y) k e))
+      step Greater e f = f
+
+  -- of keys that rise one at most is a given one
+  one_at_key : (k : Key) (rows : List R) → IsStrictlySortedBy key_cmp (map key rows) → length (rows_at k rows) ≤ 1
+  unfolding IsStrictlySortedBy
+  one_at_key k [] s = omega arith
+  one_at_key k (y ∷ rows) s = step (key_cmp (key y) k) refl (one_at_key k rows s.1)
+    where
+      later : key y ≡ k → (z : R) → IsIn z rows → key z ≢ k
+      later e z i f = not_below_itself k (ap is_lt (ap (λ j. key_cmp j k) (sym e) ∙ ap (key_cmp (key y)) (sym f) ∙ all_at (λ j. key_cmp (key y) j ≡ Less) (map key rows) (key z) s.0 (in_mapped key z rows i)))
+
+      step : (r : Ordering) → key_cmp (key y) k ≡ r → length (rows_at k rows) ≤ 1 → length (cond (is_eq r) (y ∷ rows_at k rows) (rows_at k rows)) ≤ 1
+      step Less e f = f
+      step Equal e f = let none = none_at_key k rows (later (same_key (key y) k e)) in omega arith
+      step Greater e f = f
+
   -- at most one more
   pub length_more : (x : R) (rows : List R) → length (with_one key x rows) ≤ suc (length rows)
   length_more x rows = let e = length-with_one x rows in omega arith
 
-  -- none more where the key stands
-  pub length_stays : (x y : R) (rows : List R) → IsIn y rows → key_cmp (key y) (key x) ≡ Equal → length (with_one key x rows) ≤ length rows
-  length_stays x y rows i e =
-      let c = length-with_one x rows in
-      let h = length_in y (rows_at (key x) rows) (in_filtered (λ z. is_eq (key_cmp (key z) (key x))) y rows i (ap is_eq e)) in omega arith
+  -- one more where the key is new
+  pub length_new : (x : R) (rows : List R) → ((y : R) → IsIn y rows → key y ≢ key x) → length (with_one key x rows) ≡ suc (length rows)
+  length_new x rows h = let e = length-with_one x rows in let n = none_at_key (key x) rows h in omega arith
+
+  at_key : (x y : R) (rows : List R) → IsIn y rows → key y ≡ key x → 1 ≤ length (rows_at (key x) rows)
+  at_key x y rows i e = length_in y (rows_at (key x) rows) (in_filtered (λ z. is_eq (key_cmp (key z) (key x))) y rows i (ap (λ k. is_eq (key_cmp k (key x))) e ∙ ap is_eq (tied_itself key_total (key x))))
+
+  -- none more where it stands
+  pub length_stays : (x y : R) (rows : List R) → IsIn y rows → key y ≡ key x → length (with_one key x rows) ≤ length rows
+  length_stays x y rows i e = let c = length-with_one x rows in let h = at_key x y rows i e in omega arith
+
+  -- and as many where the keys rise
+  pub length_same : (x y : R) (rows : List R) → IsStrictlySortedBy key_cmp (map key rows) → IsIn y rows → key y ≡ key x → length (with_one key x rows) ≡ length rows
+  length_same x y rows s i e = let c = length-with_one x rows in let h = at_key x y rows i e in let m = one_at_key (key x) rows s in omega arith
 
 -- ---- rows of one table among those of any
 
