@@ -1,9 +1,8 @@
--- Puts that no refusal meets: they are accepted, and leave sound tables and a legal journal.
-use Rattle.std.proofs.Common.{◌≡◌, ℕ, Bool, true, false, List, [], ◌∷◌, ◌++◌, map, None, refl, sym, ap, ◌∙◌, subst}
+-- Puts that no refusal meets: they are accepted, and leave sound tables.
+use Rattle.std.proofs.Common.{◌≡◌, Bool, true, false, List, map, None, refl, sym, ◌∙◌}
 use Rattle.std.proofs.lemmas.Bool.{false≢true}
 use Rattle.desk_base.specs.Types.{Tables, AnyRow, GroupRow}
 use Rattle.desk_base.specs.declared.tables.AnyRow.TheVariants.{Group, Booking, Caller}
-use Rattle.desk_base.specs.declared.changes.Act.{Act}
 use Rattle.desk_base.specs.declared.changes.Act.TheVariants as act
 use Rattle.desk_base.specs.declared.changes.Call.{Call}
 use Rattle.desk_base.specs.declared.changes.Entry.{Entry}
@@ -13,13 +12,11 @@ use Rattle.desk_base.specs.Rows.{key_of}
 use Rattle.desk_base.specs.Load.{Fits, ask_of}
 use Rattle.desk_base.specs.Refusing.{early_refusal}
 use Rattle.desk_base.specs.Acts.{after_act}
-use Rattle.desk_base.specs.Steps.{bears_on_room, IsLateRefusal, IsAccepted, entry_of, kept_receipt}
-use Rattle.desk_base.specs.Histories.{after_journal, IsNext, IsLegal}
+use Rattle.desk_base.specs.Steps.{bears_on_room, IsLateRefusal, IsAccepted}
 use Rattle.desk_base.specs.Sound.{IsSound, has_tree}
 use Rattle.desk_base.proofs.Suits.{is_unbooked}
 use Rattle.desk_base.proofs.ActPuts.{is_caller, sound_after_put, sound_after_quiet_put, sound_after_put_group}
 use Rattle.desk_base.proofs.PutRefusals.{revision_goes_on, suits_put, caller_of_put, suits_put_group, caller_of_put_group, no_late_refusal}
-use Rattle.desk_base.proofs.Journals.{after_journal-push, legal_push}
 
 -- ---- rows of the tables up to memberships
 
@@ -70,13 +67,3 @@ module _ (t : Tables) (journal : List Entry) (call : Call) where
   pub sound_put_group : (g : GroupRow) → IsSound t → early_refusal t journal call (act.PutGroup g) ≡ None → IsSound (after_act t call (act.PutGroup g))
   sound_put_group g s e =
       sound_after_put_group t call g s (suits_put_group t journal call g e) (caller_of_put_group t journal call g e) (revision_goes_on t journal call (act.PutGroup g) e)
-
--- ---- and the journal with its entry is legal
-
--- over the tables after a legal journal, an accepted change leaves the tables after the journal with its entry, which is legal
-pub legal_entry : (opened t : Tables) (journal : List Entry) (pass : ℕ) (call : Call) (a : Act) → t ≡ after_journal opened journal → IsLegal opened journal → kept_receipt t call ≡ None → IsAccepted t journal call a
-    → (after_act t call a ≡ after_journal opened (journal ++ entry_of t pass call a ∷ [])) × IsLegal opened (journal ++ entry_of t pass call a ∷ [])
-legal_entry opened t journal pass call a e l k h = (
-  ap (λ u. after_act u call a) e ∙ sym (after_journal-push opened journal (entry_of t pass call a)),
-  legal_push opened journal (entry_of t pass call a) l (subst (λ u. IsNext u journal (entry_of t pass call a)) e (record { fresh = k; accepted = h; entry = refl })),
-)

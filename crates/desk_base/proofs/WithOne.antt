@@ -2,6 +2,7 @@
 use Rattle.std.proofs.Common.{◌≡◌, ◌≢◌, ℕ, suc, ◌+◌, ◌≤◌, Bool, true, false, cond, List, [], ◌∷◌, ◌++◌, map, filter, length, ◌⊎◌, inl, inr, refl, sym, ap, ◌∙◌, subst, arith, length-append}
 use Rattle.std.proofs.lemmas.Bool.{false≢true}
 use Rattle.std.proofs.lemmas.Cmp.{tied_itself}
+use Rattle.std.proofs.lemmas.List.{map-append}
 use Rattle.std.specs.List.Sorted.{IsStrictlySortedBy}
 use Rattle.std.specs.declared.cmp.Ordering.{Ordering}
 use Rattle.std.specs.declared.cmp.Ordering.TheVariants.{Less, Equal, Greater}
@@ -89,10 +90,6 @@ module _ {R : Type 0} (key : R → Key) where
         r,
       )
 
-  map-append : (xs ys : List R) → map key (xs ++ ys) ≡ map key xs ++ map key ys
-  map-append [] ys = refl
-  map-append (x ∷ xs) ys = ap (λ l. key x ∷ l) (map-append xs ys)
-
   below_is : (k j : Key) (rows : List R) → IsIn j (map key (rows_below key k rows)) → key_cmp j k ≡ Less
   below_is k j rows i =
       let h = in-map key j (rows_below key k rows) i in
@@ -109,7 +106,7 @@ module _ {R : Type 0} (key : R → Key) where
   rises-with_one x rows s =
       let below = rows_below key (key x) rows in
       let above = rows_above key (key x) rows in
-      subst (IsStrictlySortedBy key_cmp) (sym (map-append below (x ∷ above)))
+      subst (IsStrictlySortedBy key_cmp) (sym (map-append key below (x ∷ above)))
       (sorted-append key_cmp (map key below) (key x ∷ map key above) (filtered_rise (λ z. is_below (key z) (key x)) rows s)
       (all_from (λ k. key_cmp (key x) k ≡ Less) (map key above) (λ k i. above_is (key x) k rows i), filtered_rise (λ z. is_below (key x) (key z)) rows s)
       (λ k j i h. elim h [
@@ -198,14 +195,10 @@ module _ {R A : Type 0} (key : A → Key) (con : R → A) where
       step true e = ap (λ l. con y ∷ l) e
       step false e = e
 
-  joined : (xs ys : List R) → map con (xs ++ ys) ≡ map con xs ++ map con ys
-  joined [] ys = refl
-  joined (x ∷ xs) ys = ap (λ l. con x ∷ l) (joined xs ys)
-
   pub map-with_one : (x : R) (rows : List R) → map con (with_one (λ y. key (con y)) x rows) ≡ with_one key (con x) (map con rows)
   unfolding with_one
   map-with_one x rows =
       let k = key (con x) in
-      joined (rows_below (λ y. key (con y)) k rows) (x ∷ rows_above (λ y. key (con y)) k rows)
+      map-append con (rows_below (λ y. key (con y)) k rows) (x ∷ rows_above (λ y. key (con y)) k rows)
       ∙ ap (λ l. l ++ con x ∷ map con (rows_above (λ y. key (con y)) k rows)) (map-filter (λ a. is_below (key a) k) rows)
       ∙ ap (λ l. rows_below key k (map con rows) ++ con x ∷ l) (map-filter (λ a. is_below k (key a)) rows)
