@@ -4,7 +4,6 @@ use Rattle.std.specs.Prelude.{filter}
 use Rattle.std.specs.List.{AllWithin, HoldsAt, list_any, insert, remove}
 use Rattle.std.specs.List.Sorted.{IsStrictlySortedBy, IsSortedBy, IsNonDecreasingBy, IsPartitionPoint, IsSearchInRange, IsBinarySearchResult}
 use Rattle.std.specs.Ordering.{is_lt, is_eq, ordering_reverse, ordering_index}
-use Rattle.std.specs.declared.cmp.Ordering.{Ordering}
 use Rattle.std.specs.declared.cmp.Ordering.TheVariants.{Less, Equal, Greater}
 use Rattle.std.proofs.lemmas.Cmp.{tied_back, alike_right}
 use Rattle.std.proofs.lemmas.List.{take-append-drop}

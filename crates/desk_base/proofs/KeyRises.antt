@@ -15,6 +15,7 @@ use Rattle.desk_base.specs.Keys.{key_cmp}
 use Rattle.desk_base.specs.Rows.{key_of}
 use Rattle.desk_base.specs.Changes.{is_below, rows_below, rows_above, with_one, without_one, with_row, without_row, without_key, with_rows, without_keys, with_change}
 use Rattle.desk_base.specs.Lookups.{KeysRise, keys_by}
+use Rattle.desk_base.specs.Trial.{no_rows}
 use Rattle.desk_base.proofs.Members.{IsIn, all_at, all_from, in_mapped, in-map, in-filter, sorted-append}
 use Rattle.desk_base.proofs.Sounds.{key_total}
 
@@ -67,8 +68,8 @@ module _ {R : Type 0} (any : R → AnyRow) where
       let high : List R = rows_above (λ y. key_of (any y)) k xs in
       subst (IsStrictlySortedBy key_cmp) (sym (keys-append low (x ∷ high)))
       (sorted-append key_cmp (keys_by any low) (k ∷ keys_by any high) (rise-filter (λ y. is_below (key_of (any y)) k) xs s)
-        (all_from _ (keys_by any high) (λ j i. above_less k j xs i), rise-filter (λ y. is_below k (key_of (any y))) xs s)
-        (λ u v i j. let l = below_less k u xs i in elim j [ inl e ↦ subst (λ w. key_cmp u w ≡ Less) (sym e) l | inr h ↦ key_total.trans u k v l (above_less k v xs h) ]))
+      (all_from _ (keys_by any high) (λ j i. above_less k j xs i), rise-filter (λ y. is_below k (key_of (any y))) xs s)
+      (λ u v i j. let l = below_less k u xs i in elim j [ inl e ↦ subst (λ w. key_cmp u w ≡ Less) (sym e) l | inr h ↦ key_total.trans u k v l (above_less k v xs h) ]))
 
   pub rise-without_one : (k : Key) (xs : List R) → IsStrictlySortedBy key_cmp (keys_by any xs) → IsStrictlySortedBy key_cmp (keys_by any (without_one (λ y. key_of (any y)) k xs))
   unfolding without_one
@@ -77,7 +78,7 @@ module _ {R : Type 0} (any : R → AnyRow) where
       let high : List R = rows_above (λ y. key_of (any y)) k xs in
       subst (IsStrictlySortedBy key_cmp) (sym (keys-append low high))
       (sorted-append key_cmp (keys_by any low) (keys_by any high) (rise-filter (λ y. is_below (key_of (any y)) k) xs s) (rise-filter (λ y. is_below k (key_of (any y))) xs s)
-        (λ u v i j. key_total.trans u k v (below_less k u xs i) (above_less k v xs j)))
+      (λ u v i j. key_total.trans u k v (below_less k u xs i) (above_less k v xs j)))
 
 -- ---- all tables
 
@@ -198,3 +199,26 @@ rise-counters t revision last h BookingNumbers = h BookingNumbers
 -- the tables with a change have rising keys, where the tables have
 pub rise-with_change : (t : Tables) (c : Change) → KeysRise t → KeysRise (with_change t c)
 rise-with_change t c h = rise-counters (with_rows (without_keys t c.removes) c.puts) c.revision c.last_booking (rise-with_rows (without_keys t c.removes) c.puts (rise-without_keys t c.removes h))
+
+pub rise-no_rows : KeysRise no_rows
+unfolding IsStrictlySortedBy
+rise-no_rows ZoneTable = tt
+rise-no_rows CalendarTable = tt
+rise-no_rows WorkTable = tt
+rise-no_rows BreakTable = tt
+rise-no_rows DayTable = tt
+rise-no_rows OffTable = tt
+rise-no_rows UnitTable = tt
+rise-no_rows SiteTable = tt
+rise-no_rows RoleTable = tt
+rise-no_rows CharacteristicTable = tt
+rise-no_rows TerritoryTable = tt
+rise-no_rows ResourceTable = tt
+rise-no_rows HasRoleTable = tt
+rise-no_rows HasCharacteristicTable = tt
+rise-no_rows HasTerritoryTable = tt
+rise-no_rows MemberTable = tt
+rise-no_rows GroupTable = tt
+rise-no_rows BookingTable = tt
+rise-no_rows CallerTable = tt
+rise-no_rows BookingNumbers = tt

@@ -19,7 +19,10 @@ pub trait Duplicate: Drop {
 }
 
 /// A list of copies.
-pub(crate) fn copy_items<T: Duplicate>(alloc: Global, items: &Items<T>) -> Result<Items<T>, NoMemory>
+pub(crate) fn copy_items<T: Duplicate>(
+    alloc: Global,
+    items: &Items<T>,
+) -> Result<Items<T>, NoMemory>
     ensures { IfOk result (λ copies. copies ≡ items.now) }
 {
     let mut copies = Items::new(alloc);

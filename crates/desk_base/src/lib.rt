@@ -10,6 +10,8 @@ mod booking_rows;
 mod calendar_rows;
 #[cfg(test)]
 mod cases;
+#[cfg(test)]
+mod change_cases;
 mod change_copies;
 mod changes;
 mod copying;

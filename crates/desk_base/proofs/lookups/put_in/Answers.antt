@@ -1,4 +1,4 @@
-use Rattle.std.proofs.Common.{◌≡◌, ◌∙◌, List, subst}
+use Rattle.std.proofs.Common.{◌∙◌, List, subst}
 use Rattle.desk_base.specs.Types.{Key}
 use Rattle.desk_base.specs.Lookups.{StandsAt, BelongsAt}
 use Rattle.desk_base.proofs.KeyParts.{put_over, put_beside}

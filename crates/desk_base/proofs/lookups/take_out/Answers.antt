@@ -1,4 +1,4 @@
-use Rattle.std.proofs.Common.{◌≡◌, ◌∙◌, List, subst}
+use Rattle.std.proofs.Common.{◌∙◌, List, subst}
 use Rattle.desk_base.specs.Lookups.{StandsAt, BelongsAt}
 use Rattle.desk_base.proofs.KeyParts.{taken_out, none_taken}
 use Rattle.desk_base.proofs.lookups.take_out.Goals as goal
