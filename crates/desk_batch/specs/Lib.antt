@@ -18,9 +18,3 @@ pub mod Rounds
 pub mod Sessions
 pub mod Shown
 pub mod Runs
--- The words of the plain search: each is a definition of desk_base, computed.
-pub mod Sorts
-pub mod Rooms
-pub mod Parts
-pub mod Tests
-pub mod Places

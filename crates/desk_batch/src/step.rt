@@ -3,11 +3,11 @@ ghost use Rattle.std.specs.Prelude.{◌≡◌, Contains, option_copied};
 ghost use Rattle.desk_base.specs.Sound.{IsSound};
 ghost use Rattle.desk_batch.specs.Steps.{IsAnswer, IsOfGroup, group_of, place_of, refused_cursor, refused_limit, refused_page, unknown_group};
 
-use crate::search::page;
 use desk_base::{
     Answer, Command, Cursor, Field, GroupId, GroupRow, Key, Options, Outcome, Position, Query,
     Refusal, Reply, Table, Tables,
 };
+use desk_search::page;
 use std::alloc::Global;
 
 /// Rows of a page, at most.

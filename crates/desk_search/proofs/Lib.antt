@@ -1,0 +1,10 @@
+-- Why the plain search computes what the definitions say.
+pub mod Parts
+pub mod Choices
+pub mod Crews
+pub mod Fitting
+pub mod Tests
+pub mod Asks
+pub mod Places
+pub mod Below
+pub mod Listing

@@ -1,0 +1,6 @@
+-- The words of the plain search, each in the module of its subject. Each is a definition of desk_base, computed.
+pub mod Sorts
+pub mod Rooms
+pub mod Parts
+pub mod Tests
+pub mod Places

@@ -1,0 +1,12 @@
+-- How a resource takes load, as the program names it.
+use Rattle.std.specs.Prelude.{◌≡◌}
+use Rattle.desk_base.specs.Load.{LoadSort, plain, crew, pool, unknown}
+use Rattle.desk_search.specs.declared.search.members.Sort.{Sort}
+use Rattle.desk_search.specs.declared.search.members.Sort.TheVariants.{Plain, Crew, Pool, Unknown}
+
+-- the program's name for a sort of load
+abbrev pub Names : Sort → LoadSort → Type 0
+Names Plain sort = sort ≡ plain
+Names Crew sort = sort ≡ crew
+Names Pool sort = sort ≡ pool
+Names Unknown sort = sort ≡ unknown

@@ -1,0 +1,13 @@
+//! What a schedule offers: the capacity of a resource, and the search of a group.
+//!
+//! `capacity::capacity` is the capacity of a plain resource at a minute. `first_broken_rule` and `first_broken_at` say which
+//! rule of a leaf a resource breaks. `live_positions` lists every position from which a search goes on, `rows` the feasible
+//! rows among them, and `page` the page after any position. Each is the definition that it is named for, for every group of
+//! sound tables: the one other answer is `NoMemory`.
+#![tactic(auto)]
+
+pub mod capacity;
+mod lookup;
+mod search;
+
+pub use search::{first_broken_at, first_broken_rule, live_positions, page, rows};

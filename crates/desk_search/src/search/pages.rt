@@ -1,0 +1,141 @@
+//! Pages of a search, cut from the list of its live positions.
+ghost use Rattle.std.specs.Prelude.{◌≡◌, Contains, ◌≤◌, length, take, filter, IfOk, option_copied};
+ghost use Rattle.std.specs.List.{last_or};
+ghost use Rattle.desk_base.specs.Limits.{page_limit, passed_limit};
+ghost use Rattle.desk_base.specs.Page.{passed_of, page_of, IsPage};
+ghost use Rattle.desk_base.specs.Positions.{precedes, positions_after};
+ghost use Rattle.desk_base.specs.Sound.{IsSound};
+
+use crate::search::listing::rows_among;
+use crate::search::live::live_positions;
+use desk_base::{Duplicate, GroupRow, Items, NoMemory, Options, Page, Position, Tables};
+use std::alloc::Global;
+use std::cmp::Ordering;
+
+/// How many positions a page passes at most.
+const PASSED_LIMIT: u32 = 4096;
+
+fn precedes(a: &Position, b: &Position) -> bool
+    ensures { result ≡ precedes a.now b.now }
+{
+    match a.cmp(b) {
+        Ordering::Less => true,
+        Ordering::Equal => false,
+        Ordering::Greater => false,
+    }
+}
+
+/// Copies of the positions that come after one.
+fn copies_after(
+    alloc: Global,
+    after: &Position,
+    positions: &[Position],
+) -> Result<Items<Position>, NoMemory>
+    ensures { IfOk result (λ rest. rest ≡ filter (precedes after.now) positions.now) }
+{
+    let mut rest = Items::new(alloc);
+    for position in positions {
+        if precedes(after, position) {
+            rest.push(position.copy(alloc)?)?;
+        }
+    }
+    Ok(rest)
+}
+
+fn positions_after(
+    alloc: Global,
+    after: Option<&Position>,
+    positions: Items<Position>,
+) -> Result<Items<Position>, NoMemory>
+    ensures { IfOk result (λ rest. rest ≡ positions_after (option_copied after.entry) positions) }
+{
+    match after {
+        Some(after) => copies_after(alloc, after, positions.as_slice()),
+        None => Ok(positions),
+    }
+}
+
+/// How many of the positions a page passes, which has room for so many full ones and so many in all.
+fn passed_len(leaves: usize, full: u32, many: u32, positions: &[Position]) -> usize
+    ensures value { take result positions.now ≡ passed_of leaves full many positions.now }
+    ensures within { result ≤ length positions.now }
+{
+    match positions {
+        [] => 0,
+        [first, others @ ..] => {
+            if full == 0 {
+                0
+            } else if many == 0 {
+                0
+            } else if first.picks.len() == leaves {
+                passed_len(leaves, full - 1, many - 1, others) + 1
+            } else {
+                passed_len(leaves, full, many - 1, others) + 1
+            }
+        }
+    }
+}
+
+fn copy_of(alloc: Global, position: Option<&Position>) -> Result<Option<Position>, NoMemory>
+    ensures { IfOk result (λ p. p ≡ option_copied position.entry) }
+{
+    match position {
+        Some(position) => Ok(Some(position.copy(alloc)?)),
+        None => Ok(None),
+    }
+}
+
+/// The last of the positions; where there is none, the one that was gone on from.
+fn last_or(
+    alloc: Global,
+    after: Option<&Position>,
+    positions: &[Position],
+) -> Result<Option<Position>, NoMemory>
+    ensures { IfOk result (λ p. p ≡ last_or (option_copied after.entry) positions.now) }
+{
+    match positions {
+        [] => copy_of(alloc, after),
+        [.., last] => Ok(Some(last.copy(alloc)?)),
+    }
+}
+
+/// The page that passes the first of these positions.
+fn page_of(
+    alloc: Global,
+    leaves: usize,
+    after: Option<&Position>,
+    limit: u16,
+    positions: &[Position],
+) -> Result<Page, NoMemory>
+    ensures { IfOk result (λ p. p ≡ page_of leaves (option_copied after.entry) limit positions.now) }
+{
+    let count = passed_len(leaves, u32::from(limit), PASSED_LIMIT, positions);
+    let here = &positions[..count];
+    Ok(Page {
+        rows: rows_among(alloc, leaves, here)?,
+        next: last_or(alloc, after, here)?,
+        end: here.len() == positions.len(),
+    })
+}
+
+/// A page of a search, for every group of sound tables: at most `limit` rows (1 to 500) of those that come after a position,
+/// or of all. It passes at most 4,096 positions, so that it may have fewer rows, or none, though more are to come. The next
+/// page is asked for with `next`; where `end` is true there is none.
+pub fn page(
+    alloc: Global,
+    tables: &Tables,
+    group: &GroupRow,
+    options: &Options,
+    after: Option<&Position>,
+    limit: u16,
+) -> Result<Page, NoMemory>
+    requires sound { IsSound tables.now }
+    requires there { Contains tables.now.groups group.now }
+    requires limit { (1 ≤ limit) × (limit ≤ page_limit) }
+    ensures { IfOk result (IsPage tables.now group.now options.now (option_copied after.entry) limit) }
+{
+    let live = live_positions(alloc, tables, group, options)?;
+    let rest = positions_after(alloc, after, live)?;
+    let page = page_of(alloc, group.leaves.len(), after, limit, rest.as_slice())?;
+    Ok(page)
+}
