@@ -14,7 +14,7 @@ use Rattle.desk_base.proofs.Rooms.{weight-quiet, unknown_fits}
 use Rattle.desk_base.proofs.Members.{IsIn}
 use Rattle.desk_base.proofs.Tests.{list_all_at, list_all_from, some_or_none, find_cases, in_range, from_range}
 
-within_room_decides : (w : ℕ) (n : Option ℕ) → Decides (is_within_room w n) (IfSome n (λ k. w ≤ k))
+pub within_room_decides : (w : ℕ) (n : Option ℕ) → Decides (is_within_room w n) (IfSome n (λ k. w ≤ k))
 within_room_decides w None = (λ _. tt, λ _. refl)
 within_room_decides w (Some n) = (λ e. grind (arith, nat_tests), λ e. grind (arith, nat_tests))
 

@@ -3,6 +3,7 @@ pub mod Parts
 pub mod Choices
 pub mod Crews
 pub mod Fitting
+pub mod Overs
 pub mod Tests
 pub mod Asks
 pub mod Places

@@ -4,3 +4,4 @@ pub mod Rooms
 pub mod Parts
 pub mod Tests
 pub mod Places
+pub mod Clashes

@@ -142,20 +142,29 @@ fn work_row(tables: &Tables, calendar: CalendarId, weekday: u64, minute: u64) ->
     })
 }
 
+fn amount(capacity: u16) -> u64
+    ensures small { result < 2 ^ 16 }
+    ensures value { result ≡ capacity }
+{
+    u64::from(capacity)
+}
+
 fn day_capacity(tables: &Tables, calendar: CalendarId, day: u64, minute: u64) -> u64
-    ensures { result ≡ option_map_or (λ d. d.capacity) (find (λ d. (d.calendar == calendar) && (d.day == day) && covers d.from d.to minute) tables.now.days) 0 }
+    ensures small { result < 2 ^ 16 }
+    ensures value { result ≡ option_map_or (λ d. d.capacity) (find (λ d. (d.calendar == calendar) && (d.day == day) && covers d.from d.to minute) tables.now.days) 0 }
 {
     match day_row(tables, calendar, day, minute) {
-        Some(row) => u64::from(row.capacity),
+        Some(row) => amount(row.capacity),
         None => 0,
     }
 }
 
 fn work_capacity(tables: &Tables, calendar: CalendarId, weekday: u64, minute: u64) -> u64
-    ensures { result ≡ option_map_or (λ w. w.capacity) (find (λ w. (w.calendar == calendar) && (w.weekday == weekday) && covers w.from w.to minute) tables.now.works) 0 }
+    ensures small { result < 2 ^ 16 }
+    ensures value { result ≡ option_map_or (λ w. w.capacity) (find (λ w. (w.calendar == calendar) && (w.weekday == weekday) && covers w.from w.to minute) tables.now.works) 0 }
 {
     match work_row(tables, calendar, weekday, minute) {
-        Some(row) => u64::from(row.capacity),
+        Some(row) => amount(row.capacity),
         None => 0,
     }
 }
@@ -163,7 +172,8 @@ fn work_capacity(tables: &Tables, calendar: CalendarId, weekday: u64, minute: u6
 #[tactic(auto, unfolding(desk_base::specs::Capacity::calendar_capacity))]
 fn calendar_capacity(tables: &Tables, calendar: CalendarId, day: u64, minute: u64) -> u64
     requires { day < 2 ^ 60 }
-    ensures { result ≡ calendar_capacity tables.now calendar (record { day = day; minute = minute }) }
+    ensures small { result < 2 ^ 16 }
+    ensures value { result ≡ calendar_capacity tables.now calendar (record { day = day; minute = minute }) }
 {
     let weekday = (day + 3) % 7;
     if has_day(tables, calendar, day) {
@@ -179,7 +189,8 @@ fn calendar_capacity(tables: &Tables, calendar: CalendarId, day: u64, minute: u6
 /// has no calendar.
 #[tactic(auto, unfolding(desk_base::specs::Capacity::capacity))]
 pub fn capacity(tables: &Tables, id: ResourceId, minute: u32) -> u64
-    ensures { result ≡ capacity tables.now id minute }
+    ensures small { result < 2 ^ 16 }
+    ensures value { result ≡ capacity tables.now id minute }
 {
     if is_off(tables, id, minute) {
         return 0;

@@ -7,7 +7,9 @@
 #![tactic(auto)]
 
 pub mod capacity;
+mod clashes;
 mod lookup;
 mod search;
 
+pub use clashes::clash;
 pub use search::{first_broken_at, first_broken_rule, live_positions, page, rows};

@@ -8,13 +8,13 @@ ghost use Rattle.std.specs.Prelude.{◌≡◌, IfOk};
 ghost use Rattle.desk_base.specs.Sound.{IsSound};
 ghost use Rattle.desk_base.specs.Trial.{trial};
 
-mod asks;
+pub mod asks;
 mod choices;
 mod crews;
 mod eligible;
 mod listing;
 mod live;
-mod load;
+pub mod load;
 mod members;
 mod pages;
 mod patterns;

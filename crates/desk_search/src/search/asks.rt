@@ -9,7 +9,8 @@ ghost use Rattle.desk_base.specs.Listing.{other_asks, ask_for};
 use desk_base::{Ask, BookingRow, GroupRow, Leaf, Minute, ResourceId, Tables, Window};
 use std::alloc::{AllocError, Global};
 
-fn ask_of(booking: &BookingRow) -> Ask
+/// A standing booking, as use of its resource.
+pub fn ask_of(booking: &BookingRow) -> Ask
     ensures { result ≡ ask_of booking.now }
 {
     Ask {

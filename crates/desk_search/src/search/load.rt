@@ -1,5 +1,5 @@
 //! What bookings weigh, and the room that a resource has.
-ghost use Rattle.std.specs.Prelude.{◌≡◌, ◌≤◌, ◌<◌, ◌==◌, ◌&&◌, ◌||◌, sum_by, ◌^◌, ◌*◌, length, IfOk, option_map};
+ghost use Rattle.std.specs.Prelude.{◌≡◌, ◌≤◌, ◌<◌, ◌==◌, ◌&&◌, ◌||◌, sum_by, ◌^◌, ◌*◌, length, IfOk, IfSome, option_map, ◌+◌};
 ghost use Rattle.std.specs.List.{list_any};
 ghost use Rattle.desk_base.specs.Capacity.{capacity};
 ghost use Rattle.desk_base.specs.Load.{sort_of, is_crew, members, effort_at, own_load, plain_load, load, load_by, weight, room, room_by, room_of_crew, loads};
@@ -12,7 +12,8 @@ use crate::search::members::{Sort, is_crew, is_member_at, members, sort_of};
 use desk_base::{Ask, ResourceId, Tables};
 use std::alloc::{AllocError, Global};
 
-fn covers(ask: &Ask, minute: u32) -> bool
+/// Whether the booking covers the minute.
+pub fn covers(ask: &Ask, minute: u32) -> bool
     ensures { result ≡ covers ask.now.window.from ask.now.window.to minute }
 {
     is_within(
@@ -104,7 +105,7 @@ fn members_load(
 
 /// What a booking takes of the resource at the minute.
 #[tactic(auto, unfolding(desk_base::specs::Load::load))]
-fn load(
+pub fn load(
     alloc: Global,
     tables: &Tables,
     ask: &Ask,
@@ -113,6 +114,7 @@ fn load(
 ) -> Result<u128, AllocError>
     ensures value { IfOk result (λ n. n ≡ load tables.now id minute ask.now) }
     ensures small { IfOk result (λ n. n ≤ 2 ^ 100) }
+    ensures within { IfOk result (λ n. n ≤ (length tables.now.members + 1) * 2 ^ 32) }
 {
     match sort_of(tables, id) {
         Sort::Plain => Ok(u128::from(plain_load(alloc, tables, ask, id, minute)?)),
@@ -127,7 +129,7 @@ fn load(
 }
 
 /// What the bookings take of the resource at the minute.
-fn weight(
+pub fn weight(
     alloc: Global,
     tables: &Tables,
     asks: &[Ask],
@@ -135,7 +137,8 @@ fn weight(
     minute: u32,
 ) -> Result<u128, AllocError>
     requires { length asks.now ≤ 2 ^ 20 }
-    ensures { IfOk result (λ n. n ≡ weight tables.now asks.now id minute) }
+    ensures value { IfOk result (λ n. n ≡ weight tables.now asks.now id minute) }
+    ensures within { IfOk result (λ n. n ≤ length asks.now * ((length tables.now.members + 1) * 2 ^ 32)) }
 {
     let mut total: u128 = 0;
     for ask in asks {
@@ -147,7 +150,7 @@ fn weight(
 /// What some plain resources can do together.
 fn members_room(tables: &Tables, list: &[ResourceId], minute: u32) -> u128
     ensures value { result ≡ sum_by (λ x. capacity tables.now x minute) list.now }
-    ensures small { result ≤ length list.now * 2 ^ 64 }
+    ensures small { result ≤ length list.now * 2 ^ 16 }
 {
     let mut total: u128 = 0;
     for id in list {
@@ -158,13 +161,14 @@ fn members_room(tables: &Tables, list: &[ResourceId], minute: u32) -> u128
 
 /// What the resource has to give at the minute; `None` is without bound.
 #[tactic(auto, unfolding(desk_base::specs::Load::room))]
-fn room(
+pub fn room(
     alloc: Global,
     tables: &Tables,
     id: ResourceId,
     minute: u32,
 ) -> Result<Option<u128>, AllocError>
-    ensures { IfOk result (λ n. n ≡ room tables.now id minute) }
+    ensures value { IfOk result (λ n. n ≡ room tables.now id minute) }
+    ensures within { IfOk result (λ n. IfSome n (λ k. k ≤ (length tables.now.members + 1) * 2 ^ 16)) }
 {
     match sort_of(tables, id) {
         Sort::Plain => Ok(Some(u128::from(capacity(tables, id, minute)))),

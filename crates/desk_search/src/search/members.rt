@@ -1,5 +1,5 @@
 //! How a resource takes load, and who is in a crew or a pool.
-ghost use Rattle.std.specs.Prelude.{◌≡◌, ◌==◌, ◌&&◌, IfOk};
+ghost use Rattle.std.specs.Prelude.{◌≡◌, ◌≤◌, ◌==◌, ◌&&◌, length, IfOk};
 ghost use Rattle.std.specs.List.{list_any};
 ghost use Rattle.desk_base.specs.Load.{sort_of, sort_of_kind, is_crew, members};
 ghost use Rattle.desk_base.specs.Time.{covers};
@@ -69,7 +69,8 @@ pub fn members(
     group: ResourceId,
     minute: u64,
 ) -> Result<Vec<ResourceId>, AllocError>
-    ensures { IfOk result (λ v. v.items ≡ members tables.now group minute) }
+    ensures value { IfOk result (λ v. v.items ≡ members tables.now group minute) }
+    ensures few { IfOk result (λ v. length v.items ≤ length tables.now.members) }
 {
     tables
         .members
