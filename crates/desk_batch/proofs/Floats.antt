@@ -4,11 +4,11 @@ use Rattle.serde_json.specs.Written.{has_float, items_have_float}
 use Rattle.serde_json.specs.View.{items_of}
 use Rattle.desk_base.specs.declared.searches.Found.{Found}
 use Rattle.desk_base.specs.declared.searches.Position.{Position}
-use Rattle.desk_base.specs.declared.answers.Answer.{Answer}
-use Rattle.desk_base.specs.declared.answers.Outcome.{Outcome}
-use Rattle.desk_base.specs.declared.answers.Outcome.TheVariants.{Done, Refused, NoMemory}
-use Rattle.desk_base.specs.declared.answers.Reply.TheVariants.{Rows}
-use Rattle.desk_base.specs.declared.answers.Refusal.TheVariants.{UnknownId, BadField, Moved}
+use Rattle.desk_batch.specs.declared.asked.Answer.{Answer}
+use Rattle.desk_batch.specs.declared.asked.Outcome.{Outcome}
+use Rattle.desk_batch.specs.declared.asked.Outcome.TheVariants.{Done, Refused, NoMemory}
+use Rattle.desk_batch.specs.declared.asked.Reply.TheVariants.{Rows}
+use Rattle.desk_batch.specs.declared.asked.Refusal.TheVariants.{UnknownId, BadField, Moved}
 use Rattle.desk_batch.specs.Answers.{pick_data, row_data, next_data, outcome_data, answer_data}
 
 picks_have_none : (picks : List (Option ℕ)) → items_have_float (items_of (map pick_data picks)) ≡ false

@@ -4,8 +4,8 @@ use Rattle.std.specs.List.{slice_split}
 use Rattle.std.proofs.lemmas.List.{append_cancel_left, append_cancel_right}
 use Rattle.std.proofs.lemmas.Fmt.{decimal_injective}
 use Rattle.desk_base.specs.declared.searches.Cursor.{Cursor}
-use Rattle.desk_base.specs.declared.answers.Command.TheVariants.{Ask}
-use Rattle.desk_base.specs.declared.answers.Query.TheVariants.{Rows}
+use Rattle.desk_batch.specs.declared.asked.Command.TheVariants.{Ask}
+use Rattle.desk_batch.specs.declared.asked.Query.TheVariants.{Rows}
 use Rattle.desk_wire.specs.declared.rules.Request.{Request}
 use Rattle.desk_batch.specs.Decimals.{IsId}
 use Rattle.desk_batch.specs.Paging.{IsQuery, AreInRange}

@@ -6,7 +6,7 @@ use Rattle.desk_base.specs.declared.tables.Tables.{Tables}
 use Rattle.desk_base.specs.declared.group_rows.GroupRow.{GroupRow}
 use Rattle.desk_base.specs.declared.searches.Page.{Page}
 use Rattle.desk_base.specs.declared.searches.Position.{Position}
-use Rattle.desk_base.specs.declared.answers.Outcome.{Outcome}
+use Rattle.desk_batch.specs.declared.asked.Outcome.{Outcome}
 use Rattle.desk_base.proofs.Pages.{pages_join}
 use Rattle.desk_base.proofs.Shapes.{sound_group}
 use Rattle.desk_base.proofs.TrialSound.{trial_sound}

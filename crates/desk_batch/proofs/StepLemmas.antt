@@ -6,8 +6,8 @@ use Rattle.std.specs.Option.{option_or}
 use Rattle.desk_base.specs.Limits.{page_limit}
 use Rattle.desk_base.specs.declared.rules.Field.TheVariants.{Limit}
 use Rattle.desk_base.specs.declared.searches.Cursor.{Cursor}
-use Rattle.desk_base.specs.declared.answers.Refusal.{Refusal}
-use Rattle.desk_base.specs.declared.answers.Refusal.TheVariants.{BadField}
+use Rattle.desk_batch.specs.declared.asked.Refusal.{Refusal}
+use Rattle.desk_batch.specs.declared.asked.Refusal.TheVariants.{BadField}
 use Rattle.desk_base.proofs.Members.{contains_from_in}
 use Rattle.desk_base.proofs.Tests.{find_cases, and_left, and_right}
 use Rattle.desk_batch.specs.Steps.{refused_cursor, refused_page}

@@ -6,8 +6,8 @@ use Rattle.std.proofs.lemmas.List.Elements.{All-from_recursion, All-append}
 use Rattle.std.proofs.lemmas.List.Splits.{slice_split_none}
 use Rattle.desk_base.specs.declared.memory.NoMemory.{NoMemory}
 use Rattle.desk_base.specs.declared.searches.Cursor.{Cursor}
-use Rattle.desk_base.specs.declared.answers.Query.{Query}
-use Rattle.desk_base.specs.declared.answers.Query.TheVariants.{Rows}
+use Rattle.desk_batch.specs.declared.asked.Query.{Query}
+use Rattle.desk_batch.specs.declared.asked.Query.TheVariants.{Rows}
 use Rattle.desk_wire.specs.declared.rules.Request.{Request}
 use Rattle.desk_batch.specs.Decimals.{IsId, ReadsId}
 use Rattle.desk_batch.specs.Paging.{limit_text, after_text, IsQuery, AreInRange}

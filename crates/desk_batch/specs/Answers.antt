@@ -11,13 +11,13 @@ use Rattle.desk_base.specs.declared.searches.Page.{Page}
 use Rattle.desk_base.specs.declared.tables.Table.TheVariants.{Zone, Calendar, Work, Break, Day, Off, Unit, Site, Role, Characteristic, Territory, Resource, HasRole, HasCharacteristic, HasTerritory, Member, Group, Booking, Caller, BookingNumbers}
 use Rattle.desk_base.specs.declared.rules.Field.{Field}
 use Rattle.desk_base.specs.declared.rules.Field.TheVariants as field
-use Rattle.desk_base.specs.declared.answers.Answer.{Answer}
-use Rattle.desk_base.specs.declared.answers.Outcome.{Outcome}
-use Rattle.desk_base.specs.declared.answers.Outcome.TheVariants.{Done, Refused, NoMemory}
-use Rattle.desk_base.specs.declared.answers.Reply.{Reply}
-use Rattle.desk_base.specs.declared.answers.Reply.TheVariants.{Rows}
-use Rattle.desk_base.specs.declared.answers.Refusal.{Refusal}
-use Rattle.desk_base.specs.declared.answers.Refusal.TheVariants.{UnknownId, BadField, Moved}
+use Rattle.desk_batch.specs.declared.asked.Answer.{Answer}
+use Rattle.desk_batch.specs.declared.asked.Outcome.{Outcome}
+use Rattle.desk_batch.specs.declared.asked.Outcome.TheVariants.{Done, Refused, NoMemory}
+use Rattle.desk_batch.specs.declared.asked.Reply.{Reply}
+use Rattle.desk_batch.specs.declared.asked.Reply.TheVariants.{Rows}
+use Rattle.desk_batch.specs.declared.asked.Refusal.{Refusal}
+use Rattle.desk_batch.specs.declared.asked.Refusal.TheVariants.{UnknownId, BadField, Moved}
 use Rattle.desk_batch.specs.Moments.{moment_text}
 use Rattle.desk_batch.specs.Cursors.{position_text}
 
@@ -75,6 +75,20 @@ field_name field.Required = codes "required"
 field_name field.Restricted = codes "restricted"
 field_name field.Window = codes "window"
 field_name field.Limit = codes "limit"
+field_name field.Act = codes "act"
+field_name field.Caller = codes "caller"
+field_name field.Number = codes "number"
+field_name field.Zone = codes "zone"
+field_name field.From = codes "from"
+field_name field.Resource = codes "resource"
+field_name field.Unit = codes "unit"
+field_name field.Site = codes "site"
+field_name field.What = codes "what"
+field_name field.Tree = codes "tree"
+field_name field.Start = codes "start"
+field_name field.Picks = codes "picks"
+field_name field.Body = codes "body"
+field_name field.Other = codes "other"
 
 -- the three numbers of a key
 abbrev pub key_data : Key → Data

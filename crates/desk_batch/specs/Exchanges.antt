@@ -1,7 +1,7 @@
 -- What a request and its response have to do with a turn.
 use Rattle.std.specs.Prelude.{◌≡◌, ◌⊎◌}
-use Rattle.desk_base.specs.declared.answers.Command.{Command as Asked}
-use Rattle.desk_base.specs.declared.answers.Answer.{Answer}
+use Rattle.desk_batch.specs.declared.asked.Command.{Command as Asked}
+use Rattle.desk_batch.specs.declared.asked.Answer.{Answer}
 use Rattle.desk_wire.specs.declared.rules.Request.{Request}
 use Rattle.desk_wire.specs.declared.responses.Response.{Response}
 use Rattle.desk_batch.specs.declared.requests.Routed.{Routed}

@@ -1,10 +1,10 @@
 -- The responses to requests.
 use Rattle.std.specs.Prelude.{ℕ, List, codes, None, false}
-use Rattle.desk_base.specs.declared.answers.Answer.{Answer}
-use Rattle.desk_base.specs.declared.answers.Outcome.{Outcome}
-use Rattle.desk_base.specs.declared.answers.Outcome.TheVariants.{Done, Refused, NoMemory}
-use Rattle.desk_base.specs.declared.answers.Refusal.{Refusal}
-use Rattle.desk_base.specs.declared.answers.Refusal.TheVariants.{UnknownId, BadField, Moved}
+use Rattle.desk_batch.specs.declared.asked.Answer.{Answer}
+use Rattle.desk_batch.specs.declared.asked.Outcome.{Outcome}
+use Rattle.desk_batch.specs.declared.asked.Outcome.TheVariants.{Done, Refused, NoMemory}
+use Rattle.desk_batch.specs.declared.asked.Refusal.{Refusal}
+use Rattle.desk_batch.specs.declared.asked.Refusal.TheVariants.{UnknownId, BadField, Moved}
 use Rattle.desk_wire.specs.declared.rules.Request.{Request}
 use Rattle.desk_wire.specs.declared.responses.Response.{Response}
 use Rattle.desk_wire.specs.declared.responses.BodyKind.TheVariants.{Json}

@@ -1,8 +1,8 @@
 -- How the target of a request is read, piece by piece.
 use Rattle.std.specs.Prelude.{◌≡◌, ℕ, ◌<◌, ◌^◌, ◌⊎◌, List, [], ◌∷◌, ◌++◌, codes, Option, Some, None, unwrap_or}
 use Rattle.desk_base.specs.declared.searches.Cursor.{Cursor}
-use Rattle.desk_base.specs.declared.answers.Query.{Query}
-use Rattle.desk_base.specs.declared.answers.Query.TheVariants.{Rows}
+use Rattle.desk_batch.specs.declared.asked.Query.{Query}
+use Rattle.desk_batch.specs.declared.asked.Query.TheVariants.{Rows}
 use Rattle.desk_batch.specs.Decimals.{IsId}
 use Rattle.desk_batch.specs.CursorReading.{IsCursor}
 use Rattle.desk_batch.specs.declared.paging.Asked.{Asked}

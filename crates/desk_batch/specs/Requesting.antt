@@ -1,8 +1,8 @@
 -- Which requests ask for what, and how every other request is refused.
 use Rattle.std.specs.Prelude.{◌≡◌, ℕ, List, ◌++◌, codes, decimal, Option, unwrap_or}
 use Rattle.desk_base.specs.declared.searches.Cursor.{Cursor}
-use Rattle.desk_base.specs.declared.answers.Query.TheVariants.{Rows}
-use Rattle.desk_base.specs.declared.answers.Command.TheVariants.{Ask}
+use Rattle.desk_batch.specs.declared.asked.Query.TheVariants.{Rows}
+use Rattle.desk_batch.specs.declared.asked.Command.TheVariants.{Ask}
 use Rattle.desk_wire.specs.declared.rules.Request.{Request}
 use Rattle.desk_batch.specs.Decimals.{IsId}
 use Rattle.desk_batch.specs.Paging.{IsQuery, AreInRange}

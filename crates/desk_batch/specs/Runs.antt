@@ -3,8 +3,8 @@ use Rattle.std.specs.Prelude.{◌≡◌, ℕ, ◌⊎◌, List, map, Option}
 use Rattle.std.specs.Io.KnownBytes.{Appends}
 use Rattle.desk_io.specs.Moves.{AppendsFront}
 use Rattle.desk_base.specs.declared.tables.Tables.{Tables}
-use Rattle.desk_base.specs.declared.answers.Command.{Command}
-use Rattle.desk_base.specs.declared.answers.Answer.{Answer}
+use Rattle.desk_batch.specs.declared.asked.Command.{Command}
+use Rattle.desk_batch.specs.declared.asked.Answer.{Answer}
 use Rattle.desk_base.specs.Trial.{trial}
 use Rattle.desk_batch.specs.declared.conversation.ends.SessionEnd.{SessionEnd}
 use Rattle.desk_batch.specs.Ends.{status_of}

@@ -6,12 +6,12 @@ use Rattle.desk_base.specs.declared.searches.Cursor.{Cursor}
 use Rattle.desk_base.specs.declared.searches.Found.{Found}
 use Rattle.desk_base.specs.declared.searches.Page.{Page}
 use Rattle.desk_base.specs.declared.searches.Position.{Position}
-use Rattle.desk_base.specs.declared.answers.Command.{Command as Asked}
-use Rattle.desk_base.specs.declared.answers.Command.TheVariants.{Ask}
-use Rattle.desk_base.specs.declared.answers.Query.TheVariants.{Rows as RowsOf}
-use Rattle.desk_base.specs.declared.answers.Outcome.TheVariants.{Done}
-use Rattle.desk_base.specs.declared.answers.Reply.TheVariants.{Rows}
-use Rattle.desk_base.specs.declared.answers.Answer.{Answer}
+use Rattle.desk_batch.specs.declared.asked.Command.{Command as Asked}
+use Rattle.desk_batch.specs.declared.asked.Command.TheVariants.{Ask}
+use Rattle.desk_batch.specs.declared.asked.Query.TheVariants.{Rows as RowsOf}
+use Rattle.desk_batch.specs.declared.asked.Outcome.TheVariants.{Done}
+use Rattle.desk_batch.specs.declared.asked.Reply.TheVariants.{Rows}
+use Rattle.desk_batch.specs.declared.asked.Answer.{Answer}
 use Rattle.desk_base.specs.Listing.{IsListing}
 use Rattle.desk_base.specs.Page.{Joins}
 use Rattle.desk_wire.specs.declared.rules.Request.{Request}

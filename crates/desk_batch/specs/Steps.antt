@@ -8,15 +8,15 @@ use Rattle.desk_base.specs.declared.rules.Field.TheVariants.{Limit}
 use Rattle.desk_base.specs.declared.searches.Cursor.{Cursor}
 use Rattle.desk_base.specs.declared.searches.Position.{Position}
 use Rattle.desk_base.specs.declared.searches.Options.{Options}
-use Rattle.desk_base.specs.declared.answers.Command.{Command}
-use Rattle.desk_base.specs.declared.answers.Command.TheVariants.{Ask}
-use Rattle.desk_base.specs.declared.answers.Query.TheVariants.{Rows as RowsOf}
-use Rattle.desk_base.specs.declared.answers.Outcome.{Outcome}
-use Rattle.desk_base.specs.declared.answers.Outcome.TheVariants.{Done, Refused, NoMemory}
-use Rattle.desk_base.specs.declared.answers.Reply.TheVariants.{Rows}
-use Rattle.desk_base.specs.declared.answers.Refusal.{Refusal}
-use Rattle.desk_base.specs.declared.answers.Refusal.TheVariants.{UnknownId, BadField, Moved}
-use Rattle.desk_base.specs.declared.answers.Answer.{Answer}
+use Rattle.desk_batch.specs.declared.asked.Command.{Command}
+use Rattle.desk_batch.specs.declared.asked.Command.TheVariants.{Ask}
+use Rattle.desk_batch.specs.declared.asked.Query.TheVariants.{Rows as RowsOf}
+use Rattle.desk_batch.specs.declared.asked.Outcome.{Outcome}
+use Rattle.desk_batch.specs.declared.asked.Outcome.TheVariants.{Done, Refused, NoMemory}
+use Rattle.desk_batch.specs.declared.asked.Reply.TheVariants.{Rows}
+use Rattle.desk_batch.specs.declared.asked.Refusal.{Refusal}
+use Rattle.desk_batch.specs.declared.asked.Refusal.TheVariants.{UnknownId, BadField, Moved}
+use Rattle.desk_batch.specs.declared.asked.Answer.{Answer}
 use Rattle.desk_base.specs.Limits.{page_limit}
 use Rattle.desk_base.specs.Keys.{id_key}
 use Rattle.desk_base.specs.Page.{IsPage}

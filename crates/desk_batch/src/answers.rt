@@ -5,9 +5,8 @@ ghost use Rattle.desk_batch.specs.Answers.{table_name, field_name, key_data, pic
 
 use crate::cursors::position_text;
 use crate::moments::moment_text;
-use desk_base::{
-    Answer, Field, Found, Key, NoMemory, Outcome, Page, Position, Refusal, Reply, ResourceId, Table,
-};
+use crate::asked::{Answer, Outcome, Refusal, Reply};
+use desk_base::{Field, Found, Key, NoMemory, Page, Position, ResourceId, Table};
 use desk_io::Bytes;
 use serde_json::{Value, json, push};
 use std::alloc::{AllocError, Global};
@@ -68,6 +67,20 @@ fn field_name(field: Field) -> &'static str
         Field::Restricted => "restricted",
         Field::Window => "window",
         Field::Limit => "limit",
+        Field::Act => "act",
+        Field::Caller => "caller",
+        Field::Number => "number",
+        Field::Zone => "zone",
+        Field::From => "from",
+        Field::Resource => "resource",
+        Field::Unit => "unit",
+        Field::Site => "site",
+        Field::What => "what",
+        Field::Tree => "tree",
+        Field::Start => "start",
+        Field::Picks => "picks",
+        Field::Body => "body",
+        Field::Other => "other",
     }
 }
 

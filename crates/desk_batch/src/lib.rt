@@ -5,6 +5,7 @@
 #![tactic(auto)]
 
 pub mod answers;
+pub mod asked;
 #[cfg(test)]
 mod cases;
 pub mod conversation;

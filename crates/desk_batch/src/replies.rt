@@ -4,7 +4,8 @@ ghost use Rattle.desk_batch.specs.Replies.{json_response, refusal_status, outcom
 
 use crate::answers::answer_text;
 use crate::requests::WebRefusal;
-use desk_base::{Answer, NoMemory, Outcome, Refusal};
+use crate::asked::{Answer, Outcome, Refusal};
+use desk_base::NoMemory;
 use desk_io::Bytes;
 use desk_wire::{BodyKind, Request, Response};
 use std::alloc::Global;

@@ -1,6 +1,6 @@
 //! Which command a request is.
 ghost use Rattle.std.specs.Prelude.{◌≡◌, ◌≢◌, ℕ, List, [], ◌∷◌, ◌++◌, codes, map, unwrap_or, IfOk, MatchOption};
-ghost use Rattle.desk_base.specs.declared.answers.Query.TheVariants.{Rows};
+ghost use Rattle.desk_batch.specs.declared.asked.Query.TheVariants.{Rows};
 ghost use Rattle.desk_batch.specs.Decimals.{IsId};
 ghost use Rattle.desk_batch.specs.Requesting.{default_limit, rows_target, Reads};
 ghost use Rattle.desk_batch.specs.RequestReading.{Finds, IsQueryIn, IsQueryOf};
@@ -8,7 +8,8 @@ ghost use Rattle.desk_batch.specs.RequestReading.{Finds, IsQueryIn, IsQueryOf};
 use crate::decimals::read_id;
 use crate::paging::{Asked, read_query};
 use crate::pieces::pieces_of;
-use desk_base::{Command, GroupId, NoMemory, Query};
+use crate::asked::{Command, Query};
+use desk_base::{GroupId, NoMemory};
 use desk_wire::Request;
 use std::alloc::Global;
 

@@ -3,10 +3,8 @@ ghost use Rattle.std.specs.Prelude.{◌≡◌, Contains, option_copied};
 ghost use Rattle.desk_base.specs.Sound.{IsSound};
 ghost use Rattle.desk_batch.specs.Steps.{IsAnswer, IsOfGroup, group_of, place_of, refused_cursor, refused_limit, refused_page, unknown_group};
 
-use desk_base::{
-    Answer, Command, Cursor, Field, GroupId, GroupRow, Key, Options, Outcome, Position, Query,
-    Refusal, Reply, Table, Tables,
-};
+use crate::asked::{Answer, Command, Outcome, Query, Refusal, Reply};
+use desk_base::{Cursor, Field, GroupId, GroupRow, Key, Options, Position, Table, Tables};
 use desk_search::page;
 use std::alloc::Global;
 

@@ -2,8 +2,8 @@
 ghost use Rattle.std.specs.Prelude.{◌≡◌, IfOk, IfErr, IfSome, IfNone};
 ghost use Rattle.desk_wire.specs.declared.rules.Request.{Request};
 ghost use Rattle.desk_wire.specs.declared.responses.Response.{Response};
-ghost use Rattle.desk_base.specs.declared.answers.Command.{Command};
-ghost use Rattle.desk_base.specs.declared.answers.Answer.{Answer};
+ghost use Rattle.desk_batch.specs.declared.asked.Command.{Command};
+ghost use Rattle.desk_batch.specs.declared.asked.Answer.{Answer};
 ghost use Rattle.desk_base.specs.Sound.{IsSound};
 ghost use Rattle.desk_batch.specs.declared.conversation.ends.Stop.{Stop};
 ghost use Rattle.desk_batch.specs.Exchanges.{Exchanged, IsStopped};
@@ -14,7 +14,8 @@ use crate::conversation::{Replier, Stop};
 use crate::replies::{answer_response, refusal_response};
 use crate::requests::{Routed, WebRefusal, read_request};
 use crate::step::step;
-use desk_base::{Answer, Command, Tables};
+use crate::asked::{Answer, Command};
+use desk_base::Tables;
 use desk_wire::{Request, Response};
 use std::alloc::Global;
 

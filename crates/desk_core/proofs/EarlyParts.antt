@@ -52,3 +52,13 @@ early-parts t journal call (act.DropGroup group) s = absurd s
 early-parts t journal call (act.BookGroup group start picks) s = absurd s
 early-parts t journal call (act.MoveGroup group start picks) s = absurd s
 early-parts t journal call (act.CancelGroup group) s = absurd s
+
+-- the first of three is the first of them all
+pub first_part : {A : Type 0} (x y z : Option A) (r : A) → Some r ≡ x → Some r ≡ option_or x (option_or y z)
+first_part x y z r e = ap (λ u. option_or u (option_or y z)) e
+
+pub second_part : {A : Type 0} (x y z : Option A) (r : A) → None ≡ x → Some r ≡ y → Some r ≡ option_or x (option_or y z)
+second_part x y z r e f = ap (λ u. option_or u z) f ∙ ap (λ u. option_or u (option_or y z)) e
+
+pub third_part : {A : Type 0} (x y z r : Option A) → None ≡ x → None ≡ y → r ≡ z → r ≡ option_or x (option_or y z)
+third_part x y z r e f g = g ∙ ap (λ u. option_or u z) f ∙ ap (λ u. option_or u (option_or y z)) e

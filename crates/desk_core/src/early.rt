@@ -1,8 +1,9 @@
 //! The refusals that the rows alone show, in the order in which they are judged.
 ghost use Rattle.std.specs.Prelude.{◌≡◌, ◌∷◌, []};
 ghost use Rattle.desk_base.specs.Keys.{id_key};
-ghost use Rattle.desk_base.specs.Refusing.{cited_by, has_place, places_for, is_booked, refused_booked, refused_entry, refused_number, unknown_among, refused_field, refused_place, early_refusal};
+ghost use Rattle.desk_base.specs.Refusing.{cited_by, has_place, places_for, refused_booked, refused_entry, refused_number, unknown_among, refused_field, refused_place, early_refusal};
 ghost use Rattle.desk_base.specs.Callers.{last_number};
+ghost use Rattle.desk_base.specs.Groups.{is_booked};
 ghost use Rattle.std.specs.Option.{option_or};
 ghost use Rattle.desk_base.specs.TableLimits.{limit_of};
 ghost use Rattle.desk_base.specs.declared.tables.Tables.{Tables};

@@ -5,10 +5,8 @@ use crate::cursors::cursor_text;
 use crate::moments::moment_text;
 use crate::replies::{answer_response, refusal_response};
 use crate::requests::{Routed, WebRefusal, read_request};
-use desk_base::{
-    Answer, Command, Cursor, Field, Found, Items, Key, Minute, Outcome, Page, Picks, Position,
-    Query, Refusal, Reply, ResourceId, Table,
-};
+use crate::asked::{Answer, Command, Outcome, Query, Refusal, Reply};
+use desk_base::{Cursor, Field, Found, Items, Key, Minute, Page, Picks, Position, ResourceId, Table};
 use desk_io::Bytes;
 use desk_wire::Request;
 use std::alloc::Global;

@@ -1,4 +1,4 @@
-use Rattle.std.proofs.Common.{sym, inl, ◌∙◌}
+use Rattle.std.proofs.Common.{Some, ap, sym, inl, ◌∙◌}
 use Rattle.desk_core.proofs.GroupsThere.{known_page, unknown_page, found_group, page_answers, limit_passes}
 use Rattle.desk_core.proofs.answering.rows.Goals as goal
 
@@ -14,4 +14,4 @@ returns-in-None-refused_known c =
     page_answers c.args.tables.now c.args.group c.in-Some.row.now c.args.options.now c.args.after.now c.args.latest c.args.limit c.page_of.result c.in-Some.ensures (sym c.in-None-refused_known.ensures) c.page_of.ensures
 
 pub returns-in-None : goal.returns-in-None
-returns-in-None c = inl (unknown_page c.args.tables.now c.args.group c.args.after.now c.args.latest c.args.limit c.in-None.ensures ∙ ?)
+returns-in-None c = inl (unknown_page c.args.tables.now c.args.group c.args.after.now c.args.latest c.args.limit c.in-None.ensures ∙ ap (λ why. Some why) (sym c.unknown_group.ensures))
