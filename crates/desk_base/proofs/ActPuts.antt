@@ -18,7 +18,7 @@ use Rattle.desk_base.specs.Rows.{rows_in, key_of}
 use Rattle.desk_base.specs.Capacity.{capacity, calendar_capacity}
 use Rattle.desk_base.specs.Load.{Fits, ask_of}
 use Rattle.desk_base.specs.Refusing.{is_key, has_place}
-use Rattle.desk_base.specs.Changes.{with_row}
+use Rattle.desk_base.specs.Changes.{with_row, with_change}
 use Rattle.desk_base.specs.Acts.{after_act}
 use Rattle.desk_base.specs.Steps.{bears_on_room}
 use Rattle.desk_base.specs.Sound.{Keeps, IsSound, keeps_fields, is_counted}
@@ -131,6 +131,7 @@ sound_after_row t row x s fit e h k room =
 -- the act of putting a row, where the standing bookings fit after it
 pub sound_after_put : (t : Tables) (call : Call) (row : AnyRow) → IsSound t → Suits t row → is_caller row ≡ false → has_place t (id_key CallerTable call.caller) ≡ true → t.revision ≢ revision_limit
     → Fits (after_act t call (act.Put row)) (map ask_of t.bookings) → IsSound (after_act t call (act.Put row))
+unfolding after_act with_change
 sound_after_put t call row s fit e h k room = sound_after_row t row (record { caller = call.caller; last = call.number; receipt = receipt.Put }) s fit e h k room
 
 -- a row that does not bear on room leaves what fits
@@ -141,12 +142,14 @@ fits_after_quiet_row t row x q f =
 -- the act of putting a row that does not bear on room
 pub sound_after_quiet_put : (t : Tables) (call : Call) (row : AnyRow) → IsSound t → Suits t row → is_caller row ≡ false → bears_on_room (key_of row).table ≡ false → has_place t (id_key CallerTable call.caller) ≡ true → t.revision ≢ revision_limit
     → IsSound (after_act t call (act.Put row))
+unfolding after_act with_change
 sound_after_quiet_put t call row s fit e q h k =
     let x : CallerRow = record { caller = call.caller; last = call.number; receipt = receipt.Put } in
     sound_after_row t row x s fit e h k (fits_after_quiet_row t row x q (bookings_fit t s))
 
 -- the act of putting a group
 pub sound_after_put_group : (t : Tables) (call : Call) (g : GroupRow) → IsSound t → Suits t (Group g) → has_place t (id_key CallerTable call.caller) ≡ true → t.revision ≢ revision_limit → IsSound (after_act t call (act.PutGroup g))
+unfolding after_act with_change
 sound_after_put_group t call g s fit h k =
     let x : CallerRow = record { caller = call.caller; last = call.number; receipt = receipt.Put } in
     sound_after_row t (Group g) x s fit refl h k (fits_after_quiet_row t (Group g) x refl (bookings_fit t s))

@@ -198,6 +198,7 @@ rise-counters t revision last h BookingNumbers = h BookingNumbers
 
 -- the tables with a change have rising keys, where the tables have
 pub rise-with_change : (t : Tables) (c : Change) → KeysRise t → KeysRise (with_change t c)
+unfolding with_change
 rise-with_change t c h = rise-counters (with_rows (without_keys t c.removes) c.puts) c.revision c.last_booking (rise-with_rows (without_keys t c.removes) c.puts (rise-without_keys t c.removes h))
 
 pub rise-no_rows : KeysRise no_rows

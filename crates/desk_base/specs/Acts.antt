@@ -73,5 +73,5 @@ change_of t call a =
     record { puts = put_by t a ++ caller_row t call a ∷ []; removes = taken_by t a; revision = t.revision + 1; last_booking = t.last_booking + length (made_by t a) }
 
 -- the tables after an accepted change
-abbrev pub after_act : Tables → Call → Act → Tables
+unfoldable pub after_act : Tables → Call → Act → Tables
 after_act t call a = with_change t (change_of t call a)

@@ -86,5 +86,5 @@ abbrev pub without_keys : Tables → List Key → Tables
 without_keys t keys = fold without_key t keys
 
 -- the tables with a change: its keys' rows are taken out, its rows are put, and the counters are its own
-abbrev pub with_change : Tables → Change → Tables
+unfoldable pub with_change : Tables → Change → Tables
 with_change t c = record (with_rows (without_keys t c.removes) c.puts) { revision = c.revision; last_booking = c.last_booking }

@@ -89,6 +89,7 @@ impl Prepared {
     }
 
     /// The tables with the change. It takes no memory.
+    #[tactic(auto, unfolding(crate::specs::Changes::with_change))]
     pub fn apply(self) -> Tables
         ensures { result ≡ with_change self.tables self.change }
     {

@@ -1,4 +1,5 @@
 -- Lemmas of the scheduler.
 pub mod GroupsThere
+pub mod Counters
 pub mod EarlyParts
-pub mod Entering
+pub mod Outcomes

@@ -9,10 +9,11 @@ ghost use Rattle.desk_base.specs.Steps.{kept_receipt, IsEntered, IsTurn};
 ghost use Rattle.desk_base.specs.declared.answers.Command.TheVariants.{Change};
 ghost use Rattle.desk_core.specs.Built.{IsServed, IsBuilt};
 
-use crate::accepting::{change_of, entry_of, receipt_of};
+use crate::accepting::{entry_of, receipt_of};
 use crate::answering::answer;
 use crate::callers::kept_receipt;
 use crate::early::early_refusal;
+use crate::entering::changed;
 use desk_base::{Act, Answer, Call, Command, Entry, NoMemory, Outcome, Receipt, Reply, Tables};
 use std::alloc::Global;
 use std::marker::Model;
@@ -88,11 +89,10 @@ impl Book {
     {
         let receipt = receipt_of(&self.tables, act);
         let entry = entry_of(alloc, &self.tables, pass, call, act)?;
-        let change = change_of(alloc, &self.tables, call, act)?;
         self.journal.reserve(1)?;
         let tables = mem::replace(&mut self.tables, Tables::empty(alloc));
-        match tables.prepare(change) {
-            Ok(prepared) => self.tables = prepared.apply(),
+        match changed(alloc, tables, call, act) {
+            Ok(tables) => self.tables = tables,
             Err(tables) => {
                 self.tables = tables;
                 return Err(NoMemory);
@@ -102,7 +102,6 @@ impl Book {
         Ok(receipt)
     }
 
-    #[tactic(none)]
     /// What a change comes to.
     fn change(&mut self, alloc: Global, pass: u64, call: &Call, act: &Act) -> Outcome
         requires { IsServed act.now }
@@ -121,7 +120,6 @@ impl Book {
         }
     }
 
-    #[tactic(none)]
     /// One step of the one-thread scheduler: what a command comes to, with the revision after it. `pass` is the number of the
     /// connection that asks. Every memory is taken before anything changes: where it is not found, and after a refusal, the
     /// book is as before.

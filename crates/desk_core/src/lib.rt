@@ -6,6 +6,7 @@ mod answering;
 mod book;
 mod callers;
 mod early;
+mod entering;
 mod group_rules;
 mod row_rules;
 

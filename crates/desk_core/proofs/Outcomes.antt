@@ -5,6 +5,7 @@ use Rattle.desk_base.specs.declared.tables.AnyRow.{AnyRow}
 use Rattle.desk_base.specs.declared.tables.AnyRow.TheVariants.{Zone, Calendar, Work, Break, Day, Off, Unit, Site, Role, Characteristic, Territory, Resource, HasRole, HasCharacteristic, HasTerritory, Member, Group, Booking, Caller}
 use Rattle.desk_base.specs.declared.booking_rows.Receipt.{Receipt}
 use Rattle.desk_base.specs.declared.booking_rows.BookingRow.{BookingRow}
+use Rattle.desk_base.specs.declared.group_rows.GroupRow.{GroupRow}
 use Rattle.desk_base.specs.declared.changes.Act.{Act}
 use Rattle.desk_base.specs.declared.changes.Act.TheVariants as act
 use Rattle.desk_base.specs.declared.changes.Call.{Call}
@@ -16,6 +17,7 @@ use Rattle.desk_base.specs.declared.answers.Reply.TheVariants as reply
 use Rattle.desk_base.specs.Load.{Fits, ask_of}
 use Rattle.desk_base.specs.Sound.{IsSound}
 use Rattle.desk_base.specs.Acts.{after_act, receipt_of}
+use Rattle.desk_base.specs.Changes.{with_change}
 use Rattle.desk_base.specs.Refusing.{early_refusal}
 use Rattle.desk_base.specs.Steps.{IsAccepted, IsChanged, IsEntered, IsTurn, kept_receipt, entry_of}
 use Rattle.desk_base.proofs.TrialSound.{Fits-none}
@@ -36,6 +38,7 @@ put_row (Resource x) h = refl
 put_row _ h = absurd h
 
 same_bookings : (t : Tables) (call : Call) (row : AnyRow) → CanBePut row → (after_act t call (act.Put row)).bookings ≡ t.bookings
+unfolding after_act with_change
 same_bookings t call (Zone x) h = refl
 same_bookings t call (Calendar x) h = refl
 same_bookings t call (Work x) h = refl
@@ -43,6 +46,10 @@ same_bookings t call (Unit x) h = refl
 same_bookings t call (Site x) h = refl
 same_bookings t call (Resource x) h = refl
 same_bookings t call _ h = absurd h
+
+group_bookings : (t : Tables) (call : Call) (g : GroupRow) → (after_act t call (act.PutGroup g)).bookings ≡ t.bookings
+unfolding after_act with_change
+group_bookings t call g = refl
 
 -- where no booking stands, what stands fits
 unbooked_fits : (u t : Tables) → t.bookings ≡ [] → Fits u (map ask_of t.bookings)
@@ -63,7 +70,7 @@ module _ (opened t : Tables) (journal : List Entry) (pass : ℕ) (call : Call) (
 
   unbooked_after : (a : Act) → IsServed a → (after_act t call a).bookings ≡ []
   unbooked_after (act.Put row) s = same_bookings t call row s ∙ kept.unbooked
-  unbooked_after (act.PutGroup g) s = kept.unbooked
+  unbooked_after (act.PutGroup g) s = group_bookings t call g ∙ kept.unbooked
   unbooked_after _ s = absurd s
 
   -- the book keeps what it keeps
