@@ -1,1 +1,2 @@
 pub mod CalendarDays
+pub mod DateTexts

@@ -1,6 +1,7 @@
 //! Dates by their day numbers, and weekdays.
-ghost use Rattle.std.specs.Prelude.{◌≡◌, ◌<◌, pos};
-ghost use Rattle.jiff_core.specs.Date.{epoch_day};
+ghost use Rattle.std.specs.Prelude.{◌≡◌, ◌<◌, pos, MatchOption};
+ghost use Rattle.jiff_core.specs.Calendar.{IsCivilDate};
+ghost use Rattle.jiff_core.specs.Date.{epoch_day, IsYmd};
 ghost use Rattle.desk_time.specs.Limits.{IsDay};
 ghost use Rattle.desk_time.specs.Reads.{Reads};
 ghost use Rattle.desk_time.specs.Dates.{IsDateOf, IsDateText, date_text, year_of, month_of, day_of_month, weekday_of};
@@ -9,19 +10,35 @@ use crate::digits::{four_digits, read_four, read_two, two_digits};
 use crate::horizon::{FIRST_DAY, LAST_DAY};
 use jiff_core::civil::Date;
 
+fn date_with(year: u16, month: u8, date: u8) -> Option<Date>
+    requires year { year < 10000 }
+    requires month { month < 100 }
+    requires date { date < 100 }
+    ensures { MatchOption result (¬ (IsCivilDate (pos year) month date)) (IsYmd (pos year) (pos month) (pos date)) }
+{
+    Date::new(year as i16, month as i8, date as i8).ok()
+}
+
+// The number of a day that clocks can show.
+fn day_shown(day: i32) -> Option<u32>
+    ensures { Reads (λ n. (day ≡ pos n) × IsDay n) result }
+{
+    let day = u32::try_from(day).ok()?;
+    if FIRST_DAY <= day && day <= LAST_DAY {
+        Some(day)
+    } else {
+        None
+    }
+}
+
 fn day_of(year: u16, month: u8, date: u8) -> Option<u32>
     requires year { year < 10000 }
     requires month { month < 100 }
     requires date { date < 100 }
     ensures { Reads (IsDateOf year month date) result }
 {
-    let date = Date::new(year as i16, month as i8, date as i8).ok()?;
-    let day = date.to_unix_epoch_day();
-    if FIRST_DAY as i32 <= day && day <= LAST_DAY as i32 {
-        Some(day as u32)
-    } else {
-        None
-    }
+    let date = date_with(year, month, date)?;
+    day_shown(date.to_unix_epoch_day())
 }
 
 /// The day, counted from 1970-01-01, that the ten bytes `YYYY-MM-DD` name (ISO 8601).
