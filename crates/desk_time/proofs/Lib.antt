@@ -1,2 +1,3 @@
 pub mod CalendarDays
 pub mod DateTexts
+pub mod MomentTexts

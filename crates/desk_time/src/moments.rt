@@ -1,6 +1,6 @@
 //! The text of a moment.
-ghost use Rattle.std.specs.Prelude.{◌≡◌, ◌<◌, ◌∷◌, []};
-ghost use Rattle.desk_time.specs.Limits.{minutes_a_day, IsMoment};
+ghost use Rattle.std.specs.Prelude.{◌≡◌, ◌+◌, ◌*◌, ◌<◌, ◌≤◌, ◌∷◌, []};
+ghost use Rattle.desk_time.specs.Limits.{minutes_a_day, last_day, IsMoment};
 ghost use Rattle.desk_time.specs.Reads.{Reads};
 ghost use Rattle.desk_time.specs.Moments.{IsClockText, IsMomentText, clock_text, moment_text};
 
@@ -21,6 +21,20 @@ fn read_clock(hour: (u8, u8), minute: (u8, u8)) -> Option<u32>
     }
 }
 
+// The minute of a day, where it lies in the horizon or is its end.
+fn moment_at(day: u32, minute: u32) -> Option<u32>
+    requires day { day ≤ last_day }
+    requires minute { minute < minutes_a_day }
+    ensures { Reads (λ m. (m ≡ day * minutes_a_day + minute) × IsMoment m) result }
+{
+    let moment = day * MINUTES_A_DAY + minute;
+    if FIRST_MINUTE <= moment && moment <= END_OF_MINUTES {
+        Some(moment)
+    } else {
+        None
+    }
+}
+
 /// The minute since 1970-01-01T00:00Z that the 17 bytes `YYYY-MM-DDTHH:MMZ` name (ISO 8601, in UTC).
 ///
 /// `None` exactly where they are no moment from 2000-01-01T00:00Z to 2100-01-01T00:00Z, both included, written so.
@@ -30,12 +44,8 @@ pub fn read_moment(text: &[u8]) -> Option<u32>
     match text {
         [date @ .., b'T', a, b, b':', c, d, b'Z'] => {
             let day = read_date(date)?;
-            let minute = day * MINUTES_A_DAY + read_clock((*a, *b), (*c, *d))?;
-            if FIRST_MINUTE <= minute && minute <= END_OF_MINUTES {
-                Some(minute)
-            } else {
-                None
-            }
+            let minute = read_clock((*a, *b), (*c, *d))?;
+            moment_at(day, minute)
         }
         _ => None,
     }
