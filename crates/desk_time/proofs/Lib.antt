@@ -1,3 +1,4 @@
 pub mod CalendarDays
 pub mod DateTexts
 pub mod MomentTexts
+pub mod ShiftLemmas

@@ -1,11 +1,32 @@
 //! The local time of a zone.
-ghost use Rattle.std.specs.Prelude.{◌≡◌, IsTrue};
-ghost use Rattle.desk_time.specs.Limits.{IsMinute};
-ghost use Rattle.desk_time.specs.Clocks.{local_time};
+ghost use Rattle.std.specs.Prelude.{◌≡◌, ◌-◌, ◌≤◌, IsTrue, length, slice_get};
+ghost use Rattle.jiff_core.specs.Calendar.{IsWithin};
+ghost use Rattle.desk_time.specs.Limits.{IsMinute, minutes_a_day};
+ghost use Rattle.desk_time.specs.Clocks.{last_shift, offset_at, local_time};
 ghost use Rattle.desk_time.specs.Zones.{are_shifts};
 
 use crate::clocks::Local;
 use crate::horizon::MINUTES_A_DAY;
+
+// How many of the shifts have begun by a minute.
+fn begun(shifts: &[(u32, i32)], minute: u32) -> usize
+    requires zone { IsTrue (are_shifts shifts.now) }
+    requires minute { IsMinute minute }
+    ensures some { 1 ≤ result }
+    ensures no_more { result ≤ length shifts.now }
+    ensures last { last_shift shifts.now minute ≡ slice_get shifts.now (result - 1) }
+{
+    shifts.partition_point(|shift| shift.0 <= minute)
+}
+
+fn offset_at(shifts: &[(u32, i32)], minute: u32) -> i32
+    requires zone { IsTrue (are_shifts shifts.now) }
+    requires minute { IsMinute minute }
+    ensures value { result ≡ offset_at shifts.now minute }
+    ensures a_day_at_most { IsWithin minutes_a_day result }
+{
+    shifts[begun(shifts, minute) - 1].1
+}
 
 /// What the clocks of a zone show at a minute of the horizon.
 ///
@@ -16,11 +37,9 @@ pub fn local(shifts: &[(u32, i32)], minute: u32) -> Local
     requires minute { IsMinute minute }
     ensures { result ≡ local_time shifts.now minute }
 {
-    let begun = shifts.partition_point(|shift| shift.0 <= minute);
-    let (_, offset) = shifts[begun - 1];
-    let clock = (i64::from(minute) + i64::from(offset)) as u32;
+    let shown = (i64::from(minute) + i64::from(offset_at(shifts, minute))) as u32;
     Local {
-        day: clock / MINUTES_A_DAY,
-        minute: (clock % MINUTES_A_DAY) as u16,
+        day: shown / MINUTES_A_DAY,
+        minute: (shown % MINUTES_A_DAY) as u16,
     }
 }
