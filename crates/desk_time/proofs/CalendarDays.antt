@@ -1,7 +1,7 @@
 -- Each day that clocks can show has one date of the calendar: the year, the month and the day of the month in which it lies.
-use Rattle.std.proofs.Common.{◌≡◌, ℕ, zero, suc, ◌+◌, ◌-◌, ◌<◌, ◌≤◌, Bool, nat_le, true, false, if◌then◌else◌, refl, sym, ap, ◌∙◌, arith, inl, inr, ℤ, pos, negsuc, ◌≤ℤ◌, ◌+ℤ◌}
-use Rattle.std.proofs.lemmas.Bool.{leb-true, leb-false, cases_lt, cases_order}
-use Rattle.jiff_core.specs.Calendar.{day_count, days_from_civil, day_of_year, days_in_year, days_in_month, IsCivilDate}
+use Rattle.std.proofs.Common.{◌≡◌, ℕ, zero, suc, ◌+◌, ◌<◌, ◌≤◌, Bool, nat_le, true, false, if◌then◌else◌, refl, sym, ap, ◌∙◌, arith, inl, inr, pos}
+use Rattle.std.proofs.lemmas.Bool.{leb-true, leb-false, cases_lt}
+use Rattle.jiff_core.specs.Calendar.{day_count, days_from_civil, days_in_year, days_in_month}
 use Rattle.jiff_core.specs.Date.{epoch_day}
 use Rattle.jiff_core.specs.declared.civil.date.Date.{Date}
 use Rattle.jiff_core.proofs.SignedLemmas.{signed_arith, one_part}
@@ -95,8 +95,8 @@ module _ (day : ℕ) (within : day ≤ last_day) where
   year_ends = elim (cases_lt (year_of day) 2100) [
     | inl lt ↦ omega (arith, year_begun.next lt, first_of_year (year_of day + 1) (omega (arith, since)), next_year (year_of day))
     | inr ge ↦
-      let last : day_count (pos (year_of day)) 1 1 ≡ day_count (pos 2100) 1 1 = ap (λ y. day_count (pos y) 1 1) (omega (arith, year_begun.within)) in
-      omega (arith, within, last, day_count-last, days_in_year_bounds (pos (year_of day)))
+        let last : day_count (pos (year_of day)) 1 1 ≡ day_count (pos 2100) 1 1 = ap (λ y. day_count (pos y) 1 1) (omega (arith, year_begun.within)) in
+        omega (arith, within, last, day_count-last, days_in_year_bounds (pos (year_of day)))
   ]
 
   month_begun : IsLastBegun (λ month. day_number (year_of day) month 1) 12 day 1 (month_of day)
@@ -110,8 +110,8 @@ module _ (day : ℕ) (within : day ≤ last_day) where
   month_ends = elim (cases_lt (month_of day) 12) [
     | inl lt ↦ omega (arith, month_begun.next lt, first_of_month (year_of day) (month_of day + 1) since (omega arith), day_count-next_month (pos (year_of day)) (month_of day) month_begun.from_low)
     | inr ge ↦
-      let last : month_of day ≡ 12 = omega (arith, month_begun.within) in
-      rw last (omega (arith, year_ends, december (year_of day)))
+        let last : month_of day ≡ 12 = omega (arith, month_begun.within) in
+        rw last (omega (arith, year_ends, december (year_of day)))
   ]
 
   month_begins : day_number (year_of day) (month_of day) 1 ≤ day
@@ -139,8 +139,8 @@ date_of_day day h = record {
 }
 
 -- the same as a value of the calendar's own type
-abbrev as_date : (year month date day : ℕ) → IsDateOf year month date day → Date
-as_date year month date day h = record { year = pos year; month = month; day = date; year_in = h.on_calendar.0; month_in = h.on_calendar.1; day_in = h.on_calendar.2 }
+abbrev as_date : (year month month_day day : ℕ) → IsDateOf year month month_day day → Date
+as_date year month month_day day h = record { year = pos year; month = month; day = month_day; year_in = h.on_calendar.0; month_in = h.on_calendar.1; day_in = h.on_calendar.2 }
 
 -- and no other
 pub parts_of_day : (d : Date) (day : ℕ) → IsDay day → epoch_day d ≡ pos day → (d.year ≡ pos (year_of day)) × (d.month ≡ month_of day) × (d.day ≡ day_of_month day)
@@ -148,7 +148,7 @@ parts_of_day d day h e =
     let own = date_of_day day h in
     epoch_day_injective d (as_date (year_of day) (month_of day) (day_of_month day) day own) (e ∙ sym own.number)
 
-pub parts_of_date : (year month date day : ℕ) → IsDateOf year month date day → (year ≡ year_of day) × (month ≡ month_of day) × (date ≡ day_of_month day)
-parts_of_date year month date day h =
-    let same = parts_of_day (as_date year month date day h) day h.in_range h.number in
+pub parts_of_date : (year month month_day day : ℕ) → IsDateOf year month month_day day → (year ≡ year_of day) × (month ≡ month_of day) × (month_day ≡ day_of_month day)
+parts_of_date year month month_day day h =
+    let same = parts_of_day (as_date year month month_day day h) day h.in_range h.number in
     (omega (arith, signed_arith, same.0), same.1, same.2)

@@ -1,13 +1,13 @@
 -- Each moment of the horizon has one text, and each moment text has one moment.
-use Rattle.std.proofs.Common.{◌≡◌, ℕ, ◌+◌, ◌*◌, ◌/◌, ◌%◌, ◌<◌, ◌≤◌, List, [], ◌∷◌, ◌++◌, length, take, drop, get_or, Option, Some, None, refl, sym, ap, subst, ◌∙◌, arith, append_assoc, ◌-◌}
+use Rattle.std.proofs.Common.{◌≡◌, ℕ, ◌+◌, ◌*◌, ◌/◌, ◌%◌, ◌<◌, ◌≤◌, List, [], ◌∷◌, ◌++◌, length, take, drop, get_or, Option, Some, None, refl, sym, ap, subst, ◌∙◌, arith, rules, append_assoc, ◌-◌, IsAscii}
+use Rattle.std.proofs.lemmas.Str.{IsAscii-append}
 use Rattle.std.proofs.lemmas.List.{length-append, length-drop, take-append-drop, get_or-drop}
 use Rattle.std.proofs.lemmas.Slice.Eq.{text_from_reads}
 use Rattle.std.proofs.Math.Seq.{take-append_seam, drop-append_seam}
 use Rattle.std.specs.Prelude.{codes}
 use Rattle.desk_time.specs.Limits.{IsMoment, minutes_a_day}
 use Rattle.desk_time.specs.Reads.{Reads}
-use Rattle.desk_time.specs.Digits.{IsTwoDigits}
-use Rattle.desk_time.specs.Dates.{IsDateText, written_date, date_text}
+use Rattle.desk_time.specs.Dates.{IsDateText, date_text}
 use Rattle.desk_time.specs.Moments.{IsClockText, IsMomentText, written_time, clock_text, moment_text}
 use Rattle.desk_time.proofs.DateTexts.{date_text-is, date_text-only, date_text-one_day}
 
@@ -40,9 +40,10 @@ length-IsClockText text minute t = ap length t.written
 -- two lists are cut in one place where what follows it has one length
 seam : (xs ys xs' ys' : List ℕ) → length ys ≡ length ys' → xs ++ ys ≡ xs' ++ ys' → (xs ≡ xs') × (ys ≡ ys')
 seam xs ys xs' ys' h e =
-    let same : length xs ≡ length xs' = omega (arith, length-append xs ys, length-append xs' ys', ap length e, h) in
-    (sym (take-append_seam xs ys) ∙ ap (take (length xs)) e ∙ ap (λ k. take k (xs' ++ ys')) same ∙ take-append_seam xs' ys',
-     sym (drop-append_seam xs ys) ∙ ap (drop (length xs)) e ∙ ap (λ k. drop k (xs' ++ ys')) same ∙ drop-append_seam xs' ys')
+    let same : length xs ≡ length xs' = omega (arith, length-append xs ys, length-append xs' ys', ap length e, h) in (
+      sym (take-append_seam xs ys) ∙ ap (take (length xs)) e ∙ ap (λ k. take k (xs' ++ ys')) same ∙ take-append_seam xs' ys',
+      sym (drop-append_seam xs ys) ∙ ap (drop (length xs)) e ∙ ap (λ k. drop k (xs' ++ ys')) same ∙ drop-append_seam xs' ys',
+    )
 
 -- a text is cut in one way into a date and a time of day of five bytes
 cut_one : (date clock date' clock' : List ℕ) → length clock ≡ 5 → length clock' ≡ 5 → date ++ codes "T" ++ clock ++ codes "Z" ≡ date' ++ codes "T" ++ clock' ++ codes "Z" → (date ≡ date') × (clock ≡ clock')
@@ -64,9 +65,19 @@ cut_at_the_end s h t colon z =
     at j i x e f = get_or-drop k s j 0 ∙ ap (λ n. get_or s n 0) e ∙ f
 
     last_seven : drop k s ≡ 84 ∷ get_or s (length s - 6) 0 ∷ get_or s (length s - 5) 0 ∷ 58 ∷ get_or s (length s - 3) 0 ∷ get_or s (length s - 2) 0 ∷ 90 ∷ []
-    last_seven = text_from_reads (drop k s) _ (omega (arith, length-drop k s))
-        (at 0 (length s - 7) _ (omega arith) t, (at 1 (length s - 6) _ (omega arith) refl, (at 2 (length s - 5) _ (omega arith) refl, (at 3 (length s - 4) _ (omega arith) colon,
-        (at 4 (length s - 3) _ (omega arith) refl, (at 5 (length s - 2) _ (omega arith) refl, (at 6 (length s - 1) _ (omega arith) z, tt)))))))
+    last_seven = text_from_reads (drop k s) _ (omega (arith, length-drop k s)) (
+      at 0 (length s - 7) _ (omega arith) t,
+      (
+        at 1 (length s - 6) _ (omega arith) refl,
+        (
+          at 2 (length s - 5) _ (omega arith) refl,
+          (
+            at 3 (length s - 4) _ (omega arith) colon,
+            (at 4 (length s - 3) _ (omega arith) refl, (at 5 (length s - 2) _ (omega arith) refl, (at 6 (length s - 1) _ (omega arith) z, tt))),
+          ),
+        ),
+      ),
+    )
 
 -- ---- reading
 
@@ -97,6 +108,11 @@ pub moment_text-bytes : (minute : ℕ) (date clock : List ℕ) → date ≡ date
     → get_or date 0 0 ∷ get_or date 1 0 ∷ get_or date 2 0 ∷ get_or date 3 0 ∷ get_or date 4 0 ∷ get_or date 5 0 ∷ get_or date 6 0 ∷ get_or date 7 0 ∷ get_or date 8 0 ∷ get_or date 9 0 ∷ 84 ∷ get_or clock 0 0 ∷ get_or clock 1 0 ∷ get_or clock 2 0 ∷ get_or clock 3 0 ∷ get_or clock 4 0 ∷ 90 ∷ [] ≡ moment_text minute
 unfolding date_text clock_text moment_text
 moment_text-bytes minute date clock d c = rw (d, c) refl
+
+-- both are ASCII, and so is the text
+pub moment_text-ascii : (minute : ℕ) → IsAscii (date_text (minute / minutes_a_day)) → IsAscii (clock_text (minute % minutes_a_day)) → IsAscii (moment_text minute)
+unfolding moment_text
+moment_text-ascii minute date clock = IsAscii-append _ (codes "Z") (IsAscii-append _ (clock_text (minute % minutes_a_day)) (IsAscii-append (date_text (minute / minutes_a_day)) (codes "T") date (search rules)) clock) (search rules)
 
 -- ---- the laws
 

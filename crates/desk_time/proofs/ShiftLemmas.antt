@@ -1,14 +1,15 @@
 -- What the rule of shifts gives at each of them, and which is the last that has begun.
-use Rattle.std.proofs.Common.{◌≡◌, ℕ, zero, suc, ◌+◌, ◌-◌, ◌<◌, ◌≤◌, Bool, true, false, ◌&&◌, nat_le, nat_lt, int_le, inl, inr, eqb-true, slice_get, ℤ, pos, neg_ℤ, ◌≤ℤ◌, List, [], ◌∷◌, length, get_or, map, Option, Some, None, refl, sym, ap, ◌∙◌, arith}
+use Rattle.std.proofs.Common.{◌≡◌, ℕ, zero, suc, ◌-◌, ◌<◌, ◌≤◌, Bool, true, false, ◌&&◌, nat_le, nat_lt, int_le, inl, inr, eqb-true, slice_get, ℤ, pos, neg_ℤ, List, [], ◌∷◌, length, get_or, map, Some, None, refl, sym, ap, ◌∙◌, arith}
 use Rattle.std.specs.List.{list_all}
 use Rattle.std.specs.Option.{option_map_or}
 use Rattle.std.specs.List.Sorted.{IsNonDecreasingBy, IsPartitionPoint}
 use Rattle.std.proofs.lemmas.Bool.{and_parts, leb-true, leb-false, le-leb, lt-leb, ltb-true, cases_lt}
+use Rattle.std.proofs.lemmas.Option.{slice_get-get_or}
 use Rattle.std.proofs.lemmas.List.Folds.{list_all-map}
 use Rattle.std.proofs.lemmas.List.Sums.{AllPass-from_list_all}
 use Rattle.jiff_core.specs.Calendar.{IsWithin}
 use Rattle.jiff_core.proofs.SignedLemmas.{signed_arith}
-use Rattle.desk_time.specs.Limits.{first_minute, end_of_minutes, minutes_a_day, shift_limit}
+use Rattle.desk_time.specs.Limits.{first_minute, end_of_minutes, minutes_a_day}
 use Rattle.desk_time.specs.Clocks.{last_shift, offset_at}
 use Rattle.desk_time.specs.Zones.{are_rising, begins_at, are_shifts}
 
@@ -33,14 +34,9 @@ last_shift-is [] m k d h here later = absurd (omega arith)
 last_shift-is (s ∷ ss) m zero d h here later = rw (none_begun ss m d (λ j l. later (suc j) (omega arith) (omega arith)), le-leb s.0 m here) refl
 last_shift-is (s ∷ ss) m (suc k) d h here later = rw (last_shift-is ss m k d (omega arith) here (λ j l within. later (suc j) (omega arith) (omega arith))) refl
 
-slice_get-is : (ss : List (ℕ × ℤ)) (k : ℕ) (d : ℕ × ℤ) → k < length ss → slice_get ss k ≡ Some (get_or ss k d)
-slice_get-is [] k d h = absurd (omega arith)
-slice_get-is (s ∷ ss) zero d h = refl
-slice_get-is (s ∷ ss) (suc k) d h = slice_get-is ss k d (omega arith)
-
 -- the offset of the shift that has begun last
 pub offset_at-is : (ss : List (ℕ × ℤ)) (m k : ℕ) (d : ℕ × ℤ) → k < length ss → last_shift ss m ≡ slice_get ss k → offset_at ss m ≡ (get_or ss k d).1
-offset_at-is ss m k d h e = ap (λ s. option_map_or (λ x. x.1) s (pos 0)) (e ∙ slice_get-is ss k d h)
+offset_at-is ss m k d h e = ap (λ s. option_map_or (λ x. x.1) s (pos 0)) (e ∙ slice_get-get_or ss k d h)
 
 -- ---- the rule
 
@@ -49,8 +45,18 @@ first_shift : (ss : List (ℕ × ℤ)) (d : ℕ × ℤ) → begins_at first_minu
 first_shift [] d e = absurd (cc)
 first_shift (s ∷ ss) d e = (omega arith, eqb-true s.0 first_minute e)
 
+-- the part of the rule that each shift keeps by itself
+abbrev is_shift : ℕ × ℤ → Bool
+is_shift s = nat_le s.0 end_of_minutes && int_le (neg_ℤ (pos minutes_a_day)) s.1 && int_le s.1 (pos minutes_a_day)
+
+within_by_tests : (b : Bool) (z : ℤ) → (b && int_le (neg_ℤ (pos minutes_a_day)) z && int_le z (pos minutes_a_day)) ≡ true → IsWithin minutes_a_day z
+within_by_tests b z e =
+    let tests = and_parts (b && int_le (neg_ℤ (pos minutes_a_day)) z) (int_le z (pos minutes_a_day)) e in
+    let low = and_parts b (int_le (neg_ℤ (pos minutes_a_day)) z) tests.0 in
+    (omega (arith, signed_arith, low.1), omega (arith, signed_arith, tests.1))
+
 module _ (ss : List (ℕ × ℤ)) (zone : are_shifts ss ≡ true) where
-  all_in : list_all (λ s. nat_le s.0 end_of_minutes && int_le (neg_ℤ (pos minutes_a_day)) s.1 && int_le s.1 (pos minutes_a_day)) ss ≡ true
+  all_in : list_all is_shift ss ≡ true
   all_in = (and_parts _ _ zone).1
 
   rising : are_rising (map (λ s. s.0) ss) ≡ true
@@ -68,13 +74,7 @@ module _ (ss : List (ℕ × ℤ)) (zone : are_shifts ss ≡ true) where
 
   -- an offset is a day at most
   pub offset_within : (k : ℕ) (d : ℕ × ℤ) → k < length ss → IsWithin minutes_a_day (get_or ss k d).1
-  offset_within k d h =
-      let z = (get_or ss k d).1 in
-      let tests = and_parts _ _ (AllPass-from_list_all _ ss all_in k d h) in
-      let low : int_le (neg_ℤ (pos minutes_a_day)) z ≡ true = (and_parts _ _ tests.0).1 in
-      let high : int_le z (pos minutes_a_day) ≡ true = tests.1 in
-      (omega (arith, signed_arith), omega (arith, signed_arith))
-
+  offset_within k d h = within_by_tests (nat_le (get_or ss k d).0 end_of_minutes) (get_or ss k d).1 (AllPass-from_list_all is_shift ss all_in k d h)
 
   module _ (m : ℕ) (since : first_minute ≤ m) (k : ℕ) (within : k ≤ length ss) (point : IsPartitionPoint (λ s. nat_le s.0 m ≡ true) (λ s. nat_le s.0 m ≡ false) ss k) where
     -- one shift at least has begun
@@ -91,5 +91,5 @@ module _ (ss : List (ℕ × ℤ)) (zone : are_shifts ss ≡ true) where
     last_shift-begun =
         let d : ℕ × ℤ = (0, pos 0) in
         let is = last_shift-is ss m (k - 1) d (omega (arith, some_begun)) (leb-true (get_or ss (k - 1) d).0 m (point.0 (k - 1) d (omega arith) (omega (arith, some_begun))))
-            (λ j l h. leb-false (get_or ss j d).0 m (point.1 j d (omega arith) h)) in
-        is ∙ sym (slice_get-is ss (k - 1) d (omega (arith, some_begun)))
+        (λ j l h. leb-false (get_or ss j d).0 m (point.1 j d (omega arith) h)) in
+        is ∙ sym (slice_get-get_or ss (k - 1) d (omega (arith, some_begun)))

@@ -5,26 +5,26 @@ use Rattle.desk_time.specs.Limits.{IsDay}
 use Rattle.desk_time.specs.Digits.{two_digits, four_digits}
 
 -- the calendar has this date, and its day, counted from 1970-01-01, is one that clocks can show
-pub record IsDateOf (year month date day : ℕ) : Type 0 where
-  pub on_calendar : IsCivilDate (pos year) month date
-  pub number : days_from_civil (pos year) month date ≡ pos day
+pub record IsDateOf (year month month_day day : ℕ) : Type 0 where
+  pub on_calendar : IsCivilDate (pos year) month month_day
+  pub number : days_from_civil (pos year) month month_day ≡ pos day
   pub in_range : IsDay day
 
 -- a year, a month and a day of the month as `YYYY-MM-DD`
 abbrev pub written_date : ℕ → ℕ → ℕ → List ℕ
-written_date year month date = four_digits year ++ codes "-" ++ two_digits month ++ codes "-" ++ two_digits date
+written_date year month month_day = four_digits year ++ codes "-" ++ two_digits month ++ codes "-" ++ two_digits month_day
 
 -- the text is the date of this day
 pub record IsDateText (text : List ℕ) (day : ℕ) : Type 0 where
   pub year : ℕ
   pub month : ℕ
-  pub date : ℕ
-  pub is_date : IsDateOf year month date day
-  pub written : text ≡ written_date year month date
+  pub month_day : ℕ
+  pub is_date : IsDateOf year month month_day day
+  pub written : text ≡ written_date year month month_day
 
 -- the days from 1970-01-01 to a later date of the Gregorian calendar
 abbrev pub day_number : ℕ → ℕ → ℕ → ℕ
-day_number year month date = unsigned_abs (days_from_civil (pos year) month date)
+day_number year month month_day = unsigned_abs (days_from_civil (pos year) month month_day)
 
 -- the last of the periods 1 to n that has begun by a day, where `first` gives the first day of each
 unfoldable pub last_begun : (ℕ → ℕ) → ℕ → ℕ → ℕ

@@ -1,5 +1,5 @@
 -- Numbers with a fixed count of decimal digits.
-use Rattle.std.specs.Prelude.{ℕ, ◌≡◌, ◌+◌, ◌/◌, ◌%◌, ◌<◌, ◌^◌, List, [], ◌∷◌, ◌++◌}
+use Rattle.std.specs.Prelude.{ℕ, ◌≡◌, ◌+◌, ◌/◌, ◌%◌, ◌<◌, List, [], ◌∷◌, ◌++◌}
 
 -- the two digits of a number below 100
 abbrev pub two_digits : ℕ → List ℕ

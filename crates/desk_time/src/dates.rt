@@ -1,5 +1,5 @@
 //! Dates by their day numbers, and weekdays.
-ghost use Rattle.std.specs.Prelude.{◌≡◌, ◌<◌, pos, MatchOption};
+ghost use Rattle.std.specs.Prelude.{◌≡◌, ◌<◌, pos, MatchOption, IsAscii};
 ghost use Rattle.jiff_core.specs.Calendar.{IsCivilDate};
 ghost use Rattle.jiff_core.specs.Date.{epoch_day, IsYmd};
 ghost use Rattle.desk_time.specs.Limits.{IsDay};
@@ -10,13 +10,13 @@ use crate::digits::{four_digits, read_four, read_two, two_digits};
 use crate::horizon::{FIRST_DAY, LAST_DAY};
 use jiff_core::civil::Date;
 
-fn date_with(year: u16, month: u8, date: u8) -> Option<Date>
+fn date_with(year: u16, month: u8, month_day: u8) -> Option<Date>
     requires year { year < 10000 }
     requires month { month < 100 }
-    requires date { date < 100 }
-    ensures { MatchOption result (¬ (IsCivilDate (pos year) month date)) (IsYmd (pos year) (pos month) (pos date)) }
+    requires month_day { month_day < 100 }
+    ensures { MatchOption result (¬ (IsCivilDate (pos year) month month_day)) (IsYmd (pos year) (pos month) (pos month_day)) }
 {
-    Date::new(year as i16, month as i8, date as i8).ok()
+    Date::new(year as i16, month as i8, month_day as i8).ok()
 }
 
 // The number of a day that clocks can show.
@@ -31,13 +31,13 @@ fn day_shown(day: i32) -> Option<u32>
     }
 }
 
-fn day_of(year: u16, month: u8, date: u8) -> Option<u32>
+fn day_of(year: u16, month: u8, month_day: u8) -> Option<u32>
     requires year { year < 10000 }
     requires month { month < 100 }
-    requires date { date < 100 }
-    ensures { Reads (IsDateOf year month date) result }
+    requires month_day { month_day < 100 }
+    ensures { Reads (IsDateOf year month month_day) result }
 {
-    let date = date_with(year, month, date)?;
+    let date = date_with(year, month, month_day)?;
     day_shown(date.to_unix_epoch_day())
 }
 
@@ -51,8 +51,8 @@ pub fn read_date(text: &[u8]) -> Option<u32>
         [a, b, c, d, b'-', e, f, b'-', g, h] => {
             let year = read_four(*a, *b, *c, *d)?;
             let month = read_two(*e, *f)?;
-            let date = read_two(*g, *h)?;
-            day_of(year, month, date)
+            let month_day = read_two(*g, *h)?;
+            day_of(year, month, month_day)
         }
         _ => None,
     }
@@ -69,7 +69,7 @@ fn date_of(day: u32) -> Date
     requires { IsDay day }
     ensures year { result.year ≡ pos (year_of day) }
     ensures month { result.month ≡ month_of day }
-    ensures date { result.day ≡ day_of_month day }
+    ensures month_day { result.day ≡ day_of_month day }
 {
     date_on(day)
 }
@@ -79,6 +79,7 @@ pub fn date_text(day: u32) -> [u8; 10]
     requires { IsDay day }
     ensures text { result ≡ date_text day }
     ensures reads { IsDateText result day }
+    ensures ascii { IsAscii result }
 {
     let date = date_of(day);
     let [a, b, c, d] = four_digits(date.year as u16);

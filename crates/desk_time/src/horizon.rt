@@ -6,6 +6,7 @@ pub const FIRST_MINUTE: u32 = 15_778_080;
 /// 2100-01-01T00:00Z, the end of the horizon.
 pub const END_OF_MINUTES: u32 = 68_374_080;
 
+/// The minutes of a day.
 pub const MINUTES_A_DAY: u32 = 1440;
 
 /// 1999-12-31, the first day that clocks can show.

@@ -1,5 +1,5 @@
 //! The text of a moment.
-ghost use Rattle.std.specs.Prelude.{◌≡◌, ◌+◌, ◌*◌, ◌<◌, ◌≤◌, ◌∷◌, []};
+ghost use Rattle.std.specs.Prelude.{◌≡◌, ◌+◌, ◌*◌, ◌<◌, ◌≤◌, ◌∷◌, [], IsAscii};
 ghost use Rattle.desk_time.specs.Limits.{minutes_a_day, last_day, IsMoment};
 ghost use Rattle.desk_time.specs.Reads.{Reads};
 ghost use Rattle.desk_time.specs.Moments.{IsClockText, IsMomentText, clock_text, moment_text};
@@ -53,7 +53,8 @@ pub fn read_moment(text: &[u8]) -> Option<u32>
 
 fn clock_text(minute: u32) -> [u8; 5]
     requires { minute < minutes_a_day }
-    ensures { result ≡ clock_text minute }
+    ensures text { result ≡ clock_text minute }
+    ensures ascii { IsAscii result }
 {
     let [a, b] = two_digits((minute / 60) as u8);
     let [c, d] = two_digits((minute % 60) as u8);
@@ -65,6 +66,7 @@ pub fn moment_text(minute: u32) -> [u8; 17]
     requires { IsMoment minute }
     ensures text { result ≡ moment_text minute }
     ensures reads { IsMomentText result minute }
+    ensures ascii { IsAscii result }
 {
     let [a, b, c, d, e, f, g, h, i, j] = date_text(minute / MINUTES_A_DAY);
     let [k, l, m, n, o] = clock_text(minute % MINUTES_A_DAY);

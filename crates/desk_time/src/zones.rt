@@ -1,7 +1,7 @@
 //! The local time of a zone.
-ghost use Rattle.std.specs.Prelude.{◌≡◌, ◌-◌, ◌≤◌, IsTrue, length, slice_get};
+ghost use Rattle.std.specs.Prelude.{◌≡◌, ◌-◌, ◌<◌, ◌≤◌, IsTrue, length, slice_get};
 ghost use Rattle.jiff_core.specs.Calendar.{IsWithin};
-ghost use Rattle.desk_time.specs.Limits.{IsMinute, minutes_a_day};
+ghost use Rattle.desk_time.specs.Limits.{IsMinute, IsDay, minutes_a_day};
 ghost use Rattle.desk_time.specs.Clocks.{last_shift, offset_at, local_time};
 ghost use Rattle.desk_time.specs.Zones.{are_shifts};
 
@@ -35,7 +35,9 @@ fn offset_at(shifts: &[(u32, i32)], minute: u32) -> i32
 pub fn local(shifts: &[(u32, i32)], minute: u32) -> Local
     requires zone { IsTrue (are_shifts shifts.now) }
     requires minute { IsMinute minute }
-    ensures { result ≡ local_time shifts.now minute }
+    ensures time { result ≡ local_time shifts.now minute }
+    ensures shown_day { IsDay result.day }
+    ensures in_day { result.minute < minutes_a_day }
 {
     let shown = (i64::from(minute) + i64::from(offset_at(shifts, minute))) as u32;
     Local {

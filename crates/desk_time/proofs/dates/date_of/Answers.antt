@@ -7,5 +7,5 @@ returns-clause-year c = (parts_of_day c.date_on.result c.args.day c.requires c.d
 pub returns-clause-month : goal.returns-clause-month
 returns-clause-month c = (parts_of_day c.date_on.result c.args.day c.requires c.date_on.ensures).1
 
-pub returns-clause-date : goal.returns-clause-date
-returns-clause-date c = (parts_of_day c.date_on.result c.args.day c.requires c.date_on.ensures).2
+pub returns-clause-month_day : goal.returns-clause-month_day
+returns-clause-month_day c = (parts_of_day c.date_on.result c.args.day c.requires c.date_on.ensures).2

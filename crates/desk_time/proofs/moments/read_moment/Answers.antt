@@ -1,4 +1,4 @@
-use Rattle.std.proofs.Common.{◌≡◌, ◌-◌, ◌≤◌, length, get_or, sym, subst, refl, arith, None}
+use Rattle.std.proofs.Common.{◌≡◌, ◌-◌, length, get_or, sym, subst, refl, arith}
 use Rattle.desk_time.specs.Reads.{Reads}
 use Rattle.desk_time.specs.Moments.{IsMomentText}
 use Rattle.desk_time.proofs.MomentTexts.{cut_at_the_end, reads_no_date, reads_no_clock, reads_moment}

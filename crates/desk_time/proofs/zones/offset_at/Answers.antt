@@ -1,4 +1,4 @@
-use Rattle.std.proofs.Common.{◌≡◌, ◌<◌, ◌-◌, ℕ, length, get_or, w32, ℤ, pos, FitsSigned, to_z, of_z, to_z-of_z, sym, ◌∙◌, subst, arith}
+use Rattle.std.proofs.Common.{◌≡◌, ◌<◌, ◌-◌, length, get_or, w32, ℤ, pos, FitsSigned, to_z, of_z, to_z-of_z, sym, ◌∙◌, subst, arith}
 use Rattle.jiff_core.specs.Calendar.{IsWithin}
 use Rattle.jiff_core.proofs.SignedLemmas.{signed_arith}
 use Rattle.desk_time.specs.Limits.{minutes_a_day}
