@@ -2,3 +2,4 @@ pub mod CalendarDays
 pub mod DateTexts
 pub mod MomentTexts
 pub mod ShiftLemmas
+mod WorkedDays
