@@ -26,6 +26,7 @@ pub fn read_four(thousands: u8, hundreds: u8, tens: u8, ones: u8) -> Option<u16>
     Some(u16::from(read_two(thousands, hundreds)?) * 100 + u16::from(read_two(tens, ones)?))
 }
 
+/// The two digits of a number, in ASCII.
 pub fn two_digits(number: u8) -> [u8; 2]
     requires { number < 100 }
     ensures { result ≡ two_digits number }
@@ -33,6 +34,7 @@ pub fn two_digits(number: u8) -> [u8; 2]
     [b'0' + number / 10, b'0' + number % 10]
 }
 
+/// The four digits of a number, in ASCII.
 pub fn four_digits(number: u16) -> [u8; 4]
     requires { number < 10000 }
     ensures { result ≡ four_digits number }
