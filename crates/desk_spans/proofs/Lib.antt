@@ -1,0 +1,4 @@
+pub mod StretchLemmas
+pub mod TimelineLemmas
+pub mod Walks
+pub mod Sizes

@@ -1,0 +1,4 @@
+pub mod Laid
+pub mod Minutes
+pub mod Pieces
+pub mod Timeline
