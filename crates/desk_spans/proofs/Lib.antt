@@ -2,3 +2,5 @@ pub mod StretchLemmas
 pub mod TimelineLemmas
 pub mod Walks
 pub mod Sizes
+pub mod Lengthening
+pub mod PieceLemmas

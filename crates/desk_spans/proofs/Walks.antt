@@ -1,13 +1,13 @@
 -- A walk along stretches, from the one that holds the first minute of a range on.
-use Rattle.std.proofs.Common.{◌≡◌, ◌≢◌, ℕ, ◌+◌, ◌-◌, min, ◌<◌, ◌≤◌, List, [], ◌∷◌, length, get_or, drop, true, false, ltb, pos, ◌+ℤ◌, ◌*ℤ◌, arith, ap, sym, ◌∙◌, inl, inr}
+use Rattle.std.proofs.Common.{◌≡◌, ◌≢◌, ℕ, ◌+◌, ◌-◌, min, ◌<◌, ◌≤◌, List, [], ◌∷◌, length, get_or, drop, true, false, ltb, pos, ◌+ℤ◌, ◌*ℤ◌, arith, ap, sym, subst, ◌∙◌, inl, inr}
 use Rattle.std.proofs.lemmas.List.{drop_more, drop_all}
 use Rattle.std.proofs.lemmas.Bool.{cases_lt}
 use Rattle.desk_spans.specs.declared.stretch.Stretch.{Stretch}
 use Rattle.desk_spans.specs.Minutes.{EachMinute}
 use Rattle.desk_spans.specs.Timeline.{Timeline, end_of, value_at, sum_on}
-use Rattle.desk_spans.specs.Laid.{Fill, AreJoined, value_in}
+use Rattle.desk_spans.specs.Laid.{Fill, AreJoined, timeline, value_in}
 use Rattle.desk_spans.proofs.StretchLemmas.{Fill-le}
-use Rattle.desk_spans.proofs.TimelineLemmas.{sum_on_level}
+use Rattle.desk_spans.proofs.TimelineLemmas.{sum_on_level, end_of-timeline, value_at-timeline}
 
 -- the stretches that are left fill the window from `start` on, and mean its values
 pub record Walks (t : Timeline) (from start : ℕ) (left : List Stretch) : Type 0 where
@@ -85,3 +85,25 @@ walk_changes t from start ss there joined w inside same =
     let on = walk_on t from start ss 0 there w in
     let end = walk_end t from _ ss 1 next on in
     joined 0 (record { end = 0; value = pos 0 }) next (sym same ∙ walk_value t from _ ss 1 next on _ (omega arith) end.0)
+
+-- ---- a walk along two profiles at once
+
+-- the stretches of a profile are walked from its first minute on
+pub walk_begins : (t : Timeline) (from to : ℕ) (ss : List Stretch) → timeline from to ss ≡ t → Fill from ss to → Walks t t.from t.from ss
+walk_begins t from to ss is fill =
+    let ends : end_of (timeline from to ss) ≡ to = end_of-timeline from to ss (Fill-le from ss to fill) in
+    let walks : Walks (timeline from to ss) from from ss = record {
+      begun = omega arith;
+      fill = rw ends fill;
+      values = λ m low high. sym (value_at-timeline from to ss m low (rw ends at high));
+    } in
+    subst (λ (u : Timeline). Walks u u.from u.from ss) is walks
+
+-- within the first stretch the walk may stop anywhere
+pub walk_within : (t : Timeline) (from start end : ℕ) (ss : List Stretch) → 0 < length ss → Walks t from start ss → start ≤ end → end < (stretch_at ss 0).end → Walks t from end ss
+walk_within t from start end [] there w later within = absurd (omega arith)
+walk_within t from start end (s ∷ rest) there w later within = record {
+  begun = omega (arith, w.begun);
+  fill = (within, w.fill.1);
+  values = λ m low high. w.values m (omega arith) high;
+}

@@ -1,11 +1,16 @@
 //! One signed value per minute of a window.
-ghost use Rattle.std.specs.Prelude.{◌≡◌, ◌≢◌, ℕ, ◌+◌, ◌*◌, ◌^◌, ◌<◌, ◌≤◌, length, slice_index_or, IfSome, IfNone, ◌≤ℤ◌, ◌<ℤ◌, pos, ◌*ℤ◌};
+ghost use Rattle.std.specs.Prelude.{◌≡◌, ◌≢◌, ◌⊎◌, ℕ, ◌+◌, ◌*◌, ◌^◌, ◌<◌, ◌≤◌, length, slice_index_or, IfSome, IfNone, IfOk, OnOk, OnErr, ◌≤ℤ◌, ◌<ℤ◌, pos, ◌+ℤ◌, ◌*ℤ◌, FitsSigned};
+ghost use Rattle.std.specs.Int.{w64};
 ghost use Rattle.std.specs.Int.RustNames.{unsigned_abs};
 ghost use Rattle.desk_spans.specs.Minutes.{EachMinute, SomeMinute};
-ghost use Rattle.desk_spans.specs.Timeline.{end_of, value_at, sum_on, IsRangeOf};
+ghost use Rattle.desk_spans.specs.Timeline.{end_of, value_at, sum_on, IsRangeOf, IsBounded};
+ghost use Rattle.desk_spans.specs.Pieces.{share, sum_at, weight_of};
 ghost use Rattle.desk_spans.specs.Laid.{Fill, AreJoined, value_in};
 
-use crate::stretch::Stretch;
+use crate::memory::NoMemory;
+use crate::piece::Piece;
+use crate::stretch::{Stretch, behind, lengthen};
+use std::alloc::Global;
 use std::marker::Model;
 
 /// A window of minutes, and a signed value at each of them.
@@ -28,6 +33,46 @@ impl Model for Profile {
 }
 
 impl Profile {
+    /// At each minute of the window the sum of the values of the pieces that cover it. What of a piece lies outside of the
+    /// window counts for nothing. In time n log n, for n pieces.
+    pub fn build(alloc: Global, from: u32, to: u32, pieces: &[Piece]) -> Result<Profile, NoMemory>
+        requires window { from < to }
+        requires bounds { weight_of pieces.now ≤ 10 ^ 14 }
+        ensures window_from { IfOk result (λ p. p.from ≡ from) }
+        ensures window_end { IfOk result (λ p. end_of p ≡ to) }
+        ensures sums { IfOk result (λ p. EachMinute from to (λ m. value_at p m ≡ sum_at pieces.now m)) }
+    {
+        match pieces {
+            [] => Profile::level(alloc, from, to),
+            [piece] => Profile::of_piece(alloc, from, to, *piece),
+            _ => {
+                let (front, back) = pieces.split_at(pieces.len() / 2);
+                let front = Profile::build(alloc, from, to, front)?;
+                let back = Profile::build(alloc, from, to, back)?;
+                Profile::sum_of(alloc, &front, &back)
+            }
+        }
+    }
+
+    /// Adds a value at each minute of a range. Want of memory leaves the profile as it was.
+    pub fn add(&mut self, from: u32, to: u32, value: i64) -> Result<(), NoMemory>
+        requires range { IsRangeOf self.old from to }
+        requires bounds { EachMinute from to (λ m. IsBounded (value_at self.old m +ℤ value)) }
+        ensures window_from { self.new.from ≡ self.old.from }
+        ensures window_end { end_of self.new ≡ end_of self.old }
+        ensures raised { OnOk result (EachMinute from to (λ m. value_at self.new m ≡ value_at self.old m +ℤ value)) }
+        ensures before { OnOk result (EachMinute self.old.from from (λ m. value_at self.new m ≡ value_at self.old m)) }
+        ensures after { OnOk result (EachMinute to (end_of self.old) (λ m. value_at self.new m ≡ value_at self.old m)) }
+        ensures err { OnErr result (self.new ≡ self.old) }
+    {
+        let alloc = *self.stretches.allocator();
+        let piece = Piece { from, to, value };
+        let more = Profile::of_piece(alloc, self.from(), self.to(), piece)?;
+        let sum = Profile::sum_of(alloc, self, &more)?;
+        *self = sum;
+        Ok(())
+    }
+
     /// The first minute of the window.
     pub fn from(&self) -> u32
         ensures { result ≡ self.now.from }
@@ -133,6 +178,86 @@ impl Profile {
     {
         let first = self.stretches.partition_point(|s| s.end <= minute);
         &self.stretches[first..]
+    }
+
+    // An empty window, with room for so many stretches.
+    fn begun_at(alloc: Global, from: u32, room: usize) -> Result<Profile, NoMemory>
+        ensures from { IfOk result (λ p. p.from ≡ from) }
+        ensures empty { IfOk result (λ p. end_of p ≡ from) }
+    {
+        let stretches = Vec::with_capacity(alloc, room)?;
+        Ok(Profile {
+            from,
+            to: from,
+            stretches,
+        })
+    }
+
+    // Lays a value on the minutes from the end of the window up to `to`, which is the end then.
+    fn lay(&mut self, to: u32, value: i64) -> Result<(), NoMemory>
+        requires { end_of self.old ≤ to }
+        ensures from { self.new.from ≡ self.old.from }
+        ensures end { OnOk result (end_of self.new ≡ to) }
+        ensures before { OnOk result (EachMinute self.old.from (end_of self.old) (λ m. value_at self.new m ≡ value_at self.old m)) }
+        ensures level { OnOk result (EachMinute (end_of self.old) to (λ m. value_at self.new m ≡ value)) }
+    {
+        if self.to() == to {
+            return Ok(());
+        }
+        lengthen(&mut self.stretches, to, value)?;
+        self.to = to;
+        Ok(())
+    }
+
+    // The value 0 at each minute.
+    fn level(alloc: Global, from: u32, to: u32) -> Result<Profile, NoMemory>
+        requires { from ≤ to }
+        ensures from { IfOk result (λ p. p.from ≡ from) }
+        ensures end { IfOk result (λ p. end_of p ≡ to) }
+        ensures values { IfOk result (λ p. EachMinute from to (λ m. value_at p m ≡ pos 0)) }
+    {
+        let mut profile = Profile::begun_at(alloc, from, 1)?;
+        profile.lay(to, 0)?;
+        Ok(profile)
+    }
+
+    // What one piece puts on the minutes of a window.
+    fn of_piece(alloc: Global, from: u32, to: u32, piece: Piece) -> Result<Profile, NoMemory>
+        requires { from ≤ to }
+        ensures from { IfOk result (λ p. p.from ≡ from) }
+        ensures end { IfOk result (λ p. end_of p ≡ to) }
+        ensures values { IfOk result (λ p. EachMinute from to (λ m. value_at p m ≡ share piece m)) }
+    {
+        let start = piece.from.max(from).min(to);
+        let end = piece.to.max(start).min(to);
+        let mut profile = Profile::begun_at(alloc, from, 3)?;
+        profile.lay(start, 0)?;
+        profile.lay(end, piece.value)?;
+        profile.lay(to, 0)?;
+        Ok(profile)
+    }
+
+    // The sum of two profiles over one window, which fits wherever the second is not 0.
+    fn sum_of(alloc: Global, a: &Profile, b: &Profile) -> Result<Profile, NoMemory>
+        requires from { b.now.from ≡ a.now.from }
+        requires end { end_of b.now ≡ end_of a.now }
+        requires bounds { EachMinute a.now.from (end_of a.now) (λ m. (value_at b.now m ≡ pos 0) ⊎ FitsSigned w64 (value_at a.now m +ℤ value_at b.now m)) }
+        ensures from { IfOk result (λ p. p.from ≡ a.now.from) }
+        ensures end { IfOk result (λ p. end_of p ≡ end_of a.now) }
+        ensures values { IfOk result (λ p. EachMinute a.now.from (end_of a.now) (λ m. value_at p m ≡ value_at a.now m +ℤ value_at b.now m)) }
+    {
+        let mut left = a.stretches.as_slice();
+        let mut right = b.stretches.as_slice();
+        let mut sum = Profile::begun_at(alloc, a.from, left.len() + right.len())?;
+        while !left.is_empty() && !right.is_empty() {
+            let s = left[0];
+            let t = right[0];
+            let end = s.end.min(t.end);
+            sum.lay(end, s.value + t.value)?;
+            left = behind(left, end);
+            right = behind(right, end);
+        }
+        Ok(sum)
     }
 }
 
