@@ -4,3 +4,5 @@ pub mod Walks
 pub mod Sizes
 pub mod Lengthening
 pub mod PieceLemmas
+pub mod RunLemmas
+pub mod Intersecting

@@ -2,3 +2,4 @@ pub mod Laid
 pub mod Minutes
 pub mod Pieces
 pub mod Timeline
+pub mod Runs
