@@ -2,11 +2,9 @@
 use Rattle.std.proofs.Common.{◌≡◌, ℕ, ◌+◌, ◌<◌, ◌≤◌, min, max, Bool, true, false, leb, ltb, ◌&&◌, ◌||◌, List, [], ◌∷◌, length, get_or, refl, ap, sym, ◌∙◌, ◌⊎◌, inl, inr, arith}
 use Rattle.std.specs.List.{All}
 use Rattle.std.proofs.lemmas.Bool.{cases_lt, cases_order}
-use Rattle.std.proofs.lemmas.List.{nil_from_length}
 use Rattle.std.proofs.lemmas.List.Elements.{All-weaker}
 use Rattle.desk_spans.specs.declared.run.Run.{Run}
 use Rattle.desk_spans.specs.Runs.{covers, has_minute, AreApart, without_ended}
-use Rattle.desk_spans.proofs.RunLemmas.{or-false}
 
 AreApart-weaker : (low high : ℕ) (rs : List Run) → low ≤ high → AreApart high rs → AreApart low rs
 AreApart-weaker low high [] h apart = tt
@@ -40,19 +38,6 @@ EndsBehind-rest : (low high : ℕ) (rs : List Run) → low ≤ high → AreApart
 EndsBehind-rest low high [] h apart = tt
 EndsBehind-rest low high (r ∷ rest) h apart = omega (arith, apart.0, apart.1)
 
-pub stands_first : (a b : List Run) → AreApart 0 a → AreApart 0 b → Stands 0 [] a b a b
-stands_first a b left right = record {
-  apart = tt;
-  found = λ k d there. absurd (omega arith);
-  left_apart = left;
-  right_apart = right;
-  left_end = EndsBehind-rest 0 0 a (omega arith) left;
-  right_end = EndsBehind-rest 0 0 b (omega arith) right;
-  begun = inl left;
-  minutes = λ m. refl;
-}
-
-
 and-false : (a : Bool) → (a && false) ≡ false
 and-false true = refl
 and-false false = refl
@@ -60,25 +45,25 @@ and-false false = refl
 leb-max : (a b m : ℕ) → leb (max a b) m ≡ (leb a m && leb b m)
 leb-max a b m =
     elim (cases_lt m a) [
-    | inl below ↦ (let p : leb a m ≡ false = grind arith in let q : leb (max a b) m ≡ false = grind arith in rw (p, q) refl)
-    | inr above ↦
-      let p : leb a m ≡ true = grind arith in
-      elim (cases_lt m b) [
-      | inl below ↦ (let q : leb b m ≡ false = grind arith in let r : leb (max a b) m ≡ false = grind arith in rw (p, q, r) refl)
-      | inr beyond ↦ (let q : leb b m ≡ true = grind arith in let r : leb (max a b) m ≡ true = grind arith in rw (p, q, r) refl)
-      ]
+      | inl below ↦ (let p : leb a m ≡ false = grind arith in let q : leb (max a b) m ≡ false = grind arith in rw (p, q) refl)
+      | inr above ↦
+          let p : leb a m ≡ true = grind arith in
+          elim (cases_lt m b) [
+            | inl below ↦ (let q : leb b m ≡ false = grind arith in let r : leb (max a b) m ≡ false = grind arith in rw (p, q, r) refl)
+            | inr beyond ↦ (let q : leb b m ≡ true = grind arith in let r : leb (max a b) m ≡ true = grind arith in rw (p, q, r) refl)
+          ]
     ]
 
 ltb-min : (a b m : ℕ) → ltb m (min a b) ≡ (ltb m a && ltb m b)
 ltb-min a b m =
     elim (cases_lt m a) [
-    | inr above ↦ (let p : ltb m a ≡ false = grind arith in let q : ltb m (min a b) ≡ false = grind arith in rw (p, q) refl)
-    | inl below ↦
-      let p : ltb m a ≡ true = grind arith in
-      elim (cases_lt m b) [
-      | inr above ↦ (let q : ltb m b ≡ false = grind arith in let r : ltb m (min a b) ≡ false = grind arith in rw (p, q, r) refl)
-      | inl beneath ↦ (let q : ltb m b ≡ true = grind arith in let r : ltb m (min a b) ≡ true = grind arith in rw (p, q, r) refl)
-      ]
+      | inr above ↦ (let p : ltb m a ≡ false = grind arith in let q : ltb m (min a b) ≡ false = grind arith in rw (p, q) refl)
+      | inl below ↦
+          let p : ltb m a ≡ true = grind arith in
+          elim (cases_lt m b) [
+            | inr above ↦ (let q : ltb m b ≡ false = grind arith in let r : ltb m (min a b) ≡ false = grind arith in rw (p, q, r) refl)
+            | inl beneath ↦ (let q : ltb m b ≡ true = grind arith in let r : ltb m (min a b) ≡ true = grind arith in rw (p, q, r) refl)
+          ]
     ]
 
 and_pairs : (p q r s : Bool) → ((p && q) && (r && s)) ≡ ((p && r) && (q && s))
@@ -117,11 +102,11 @@ meet_both false true true xs ys h k = refl
 covers_below : (r : Run) (m : ℕ) → covers r m ≡ true → m < r.to
 covers_below r m inside =
     elim (cases_lt m r.to) [
-    | inl below ↦ below
-    | inr above ↦
-      let outside : ltb m r.to ≡ false = grind arith in
-      let wrong : false ≡ true = sym (and-false (leb r.from m)) ∙ rw outside at inside in
-      absurd (cc)
+      | inl below ↦ below
+      | inr above ↦
+          let outside : ltb m r.to ≡ false = grind arith in
+          let wrong : false ≡ true = sym (and-false (leb r.from m)) ∙ rw outside at inside in
+          absurd (cc)
     ]
 
 -- no later run has a minute of a run that ends before it
@@ -144,9 +129,9 @@ step_left low both more x y xs ys a b s f less = record {
   right_end = omega arith;
   begun = inl (AreApart-weaker (min x.to y.to) (x.to + 1) xs (omega arith) s.left_apart.2);
   minutes = λ m. ap (λ v. v || (has_minute xs m && (covers y m || has_minute ys m))) (f.minutes m)
-  ∙ meet_left (has_minute both m) (covers x m) (covers y m) (has_minute xs m) (has_minute ys m)
-    (apart_from x y ys m s.right_apart.2 (omega arith))
-  ∙ s.minutes m;
+      ∙ meet_left (has_minute both m) (covers x m) (covers y m) (has_minute xs m) (has_minute ys m)
+      (apart_from x y ys m s.right_apart.2 (omega arith))
+      ∙ s.minutes m;
 }
 
 step_right : (low : ℕ) (both more : List Run) (x y : Run) (xs ys a b : List Run) → Stands low both (x ∷ xs) (y ∷ ys) a b → Finds both more x y → y.to < x.to → Stands (min x.to y.to) more (x ∷ xs) ys a b
@@ -159,9 +144,9 @@ step_right low both more x y xs ys a b s f less = record {
   right_end = EndsBehind-rest (min x.to y.to) (y.to + 1) ys (omega arith) s.right_apart.2;
   begun = inr (AreApart-weaker (min x.to y.to) (y.to + 1) ys (omega arith) s.right_apart.2);
   minutes = λ m. ap (λ v. v || ((covers x m || has_minute xs m) && has_minute ys m)) (f.minutes m)
-  ∙ meet_right (has_minute both m) (covers x m) (covers y m) (has_minute xs m) (has_minute ys m)
-    (apart_from y x xs m s.left_apart.2 (omega arith))
-  ∙ s.minutes m;
+      ∙ meet_right (has_minute both m) (covers x m) (covers y m) (has_minute xs m) (has_minute ys m)
+      (apart_from y x xs m s.left_apart.2 (omega arith))
+      ∙ s.minutes m;
 }
 
 step_both : (low : ℕ) (both more : List Run) (x y : Run) (xs ys a b : List Run) → Stands low both (x ∷ xs) (y ∷ ys) a b → Finds both more x y → x.to ≡ y.to → Stands (min x.to y.to) more xs ys a b
@@ -174,27 +159,20 @@ step_both low both more x y xs ys a b s f same = record {
   right_end = EndsBehind-rest (min x.to y.to) (y.to + 1) ys (omega arith) s.right_apart.2;
   begun = inl (AreApart-weaker (min x.to y.to) (x.to + 1) xs (omega arith) s.left_apart.2);
   minutes = λ m. ap (λ v. v || (has_minute xs m && has_minute ys m)) (f.minutes m)
-  ∙ meet_both (has_minute both m) (covers x m) (covers y m) (has_minute xs m) (has_minute ys m)
-    (apart_from x y ys m s.right_apart.2 (omega arith)) (apart_from y x xs m s.left_apart.2 (omega arith))
-  ∙ s.minutes m;
+      ∙ meet_both (has_minute both m) (covers x m) (covers y m) (has_minute xs m) (has_minute ys m)
+      (apart_from x y ys m s.right_apart.2 (omega arith)) (apart_from y x xs m s.left_apart.2 (omega arith))
+      ∙ s.minutes m;
 }
 
 -- the run at the front, as code reads it
 abbrev pub front : List Run → Run
 front rs = get_or rs 0 (record { from = 0; to = 0 })
 
--- the run that the first two have in common is behind what was found
-pub stands_behind : (low : ℕ) (both left right a b : List Run) → 0 < length left → 0 < length right → Stands low both left right a b → low ≤ max (front left).from (front right).from
-stands_behind low both [] right a b some also s = absurd (omega arith)
-stands_behind low both (x ∷ xs) [] a b some also s = absurd (omega arith)
-stands_behind low both (x ∷ xs) (y ∷ ys) a b some also s =
-    elim s.begun [ inl left ↦ omega (arith, left.0) | inr right ↦ omega (arith, right.0) ]
-
 -- with that run found, the intersection goes on behind its end
 pub stands_step : (low : ℕ) (both more left right a b : List Run) → 0 < length left → 0 < length right → Stands low both left right a b
-  → AreApart 0 more → ((bound : ℕ) → min (front left).to (front right).to ≤ bound → All (λ r. r.to ≤ bound) both → All (λ r. r.to ≤ bound) more)
-  → ((m : ℕ) → has_minute more m ≡ (has_minute both m || covers (record { from = max (front left).from (front right).from; to = min (front left).to (front right).to }) m))
-  → Stands (min (front left).to (front right).to) more (without_ended left (min (front left).to (front right).to)) (without_ended right (min (front left).to (front right).to)) a b
+    → AreApart 0 more → ((bound : ℕ) → min (front left).to (front right).to ≤ bound → All (λ r. r.to ≤ bound) both → All (λ r. r.to ≤ bound) more)
+    → ((m : ℕ) → has_minute more m ≡ (has_minute both m || covers (record { from = max (front left).from (front right).from; to = min (front left).to (front right).to }) m))
+    → Stands (min (front left).to (front right).to) more (without_ended left (min (front left).to (front right).to)) (without_ended right (min (front left).to (front right).to)) a b
 stands_step low both more [] right a b some also s apart ends minutes = absurd (omega arith)
 stands_step low both more (x ∷ xs) [] a b some also s apart ends minutes = absurd (omega arith)
 stands_step low both more (x ∷ xs) (y ∷ ys) a b some also s apart ends minutes =
@@ -204,28 +182,18 @@ stands_step low both more (x ∷ xs) (y ∷ ys) a b some also s apart ends minut
       minutes = λ m. minutes m ∙ ap (λ v. has_minute both m || v) (covers-common x y m);
     } in
     elim (cases_order x.to y.to) [
-    | inl same ↦
-      let p : leb x.to (min x.to y.to) ≡ true = grind arith in
-      let q : leb y.to (min x.to y.to) ≡ true = grind arith in
-      rw (p, q) (step_both low both more x y xs ys a b s finds same)
-    | inr other ↦ elim other [
-      | inl less ↦
-        let p : leb x.to (min x.to y.to) ≡ true = grind arith in
-        let q : leb y.to (min x.to y.to) ≡ false = grind arith in
-        rw (p, q) (step_left low both more x y xs ys a b s finds less)
-      | inr more_than ↦
-        let p : leb x.to (min x.to y.to) ≡ false = grind arith in
-        let q : leb y.to (min x.to y.to) ≡ true = grind arith in
-        rw (p, q) (step_right low both more x y xs ys a b s finds more_than)
+      | inl same ↦
+          let p : leb x.to (min x.to y.to) ≡ true = grind arith in
+          let q : leb y.to (min x.to y.to) ≡ true = grind arith in
+          rw (p, q) (step_both low both more x y xs ys a b s finds same)
+      | inr other ↦ elim other [
+        | inl less ↦
+            let p : leb x.to (min x.to y.to) ≡ true = grind arith in
+            let q : leb y.to (min x.to y.to) ≡ false = grind arith in
+            rw (p, q) (step_left low both more x y xs ys a b s finds less)
+        | inr more_than ↦
+            let p : leb x.to (min x.to y.to) ≡ false = grind arith in
+            let q : leb y.to (min x.to y.to) ≡ true = grind arith in
+            rw (p, q) (step_right low both more x y xs ys a b s finds more_than)
       ]
-    ]
-
--- where one of the lists is at its end, all is found
-pub stands_done : (low : ℕ) (both left right a b : List Run) → Stands low both left right a b → (length left ≡ 0) ⊎ (length right ≡ 0) → (m : ℕ) → has_minute both m ≡ (has_minute a m && has_minute b m)
-stands_done low both left right a b s done m =
-    elim done [
-    | inl none ↦ (let ended = rw (nil_from_length left none) at (s.minutes m) in sym (or-false (has_minute both m)) ∙ ended)
-    | inr none ↦
-      let ended = rw (nil_from_length right none) at (s.minutes m) in
-      sym (or-false (has_minute both m)) ∙ ap (λ v. has_minute both m || v) (sym (and-false (has_minute left m))) ∙ ended
     ]

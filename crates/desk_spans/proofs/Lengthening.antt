@@ -1,10 +1,8 @@
 -- Stretches that are lengthened: one more at the end, or the last one with a later end.
-use Rattle.std.proofs.Common.{◌≡◌, ◌≢◌, ℕ, zero, suc, ◌+◌, ◌-◌, ◌<◌, ◌≤◌, true, false, ltb, cond, List, [], ◌∷◌, ◌++◌, length, get_or, set, ℤ, pos, refl, ap, sym, ◌∙◌, inl, inr, arith}
-use Rattle.std.specs.List.{AllAdjacentBelow}
+use Rattle.std.proofs.Common.{◌≡◌, ◌≢◌, ℕ, zero, suc, ◌+◌, ◌-◌, ◌<◌, ◌≤◌, true, false, ltb, cond, List, [], ◌∷◌, ◌++◌, length, get_or, set, refl, ap, sym, ◌∙◌, inl, inr, arith}
 use Rattle.std.proofs.lemmas.Bool.{cases_lt, cases_eq}
 use Rattle.std.proofs.lemmas.List.{get_or-set_same, get_or-set_other, length-set, get_or_append_left, get_or_push, length_push}
 use Rattle.desk_spans.specs.declared.stretch.Stretch.{Stretch}
-use Rattle.desk_spans.specs.Minutes.{EachMinute}
 use Rattle.desk_spans.specs.Laid.{Fill, AreJoined, IsLaid, IsLengthened, value_in}
 use Rattle.desk_spans.proofs.StretchLemmas.{Fill-le}
 
@@ -18,8 +16,8 @@ value_in-push_before : (from : ℕ) (ss : List Stretch) (end m : ℕ) (y : Stret
 value_in-push_before from [] end m y h low high = absurd (omega arith)
 value_in-push_before from (s ∷ rest) end m y h low high =
     elim (cases_lt m s.end) [
-    | inl here ↦ (let test : ltb m s.end ≡ true = grind arith in rw test refl)
-    | inr behind ↦ ap (λ v. cond (ltb m s.end) s.value v) (value_in-push_before s.end rest end m y h.1 behind high)
+      | inl here ↦ (let test : ltb m s.end ≡ true = grind arith in rw test refl)
+      | inr behind ↦ ap (λ v. cond (ltb m s.end) s.value v) (value_in-push_before s.end rest end m y h.1 behind high)
     ]
 
 value_in-push_level : (from : ℕ) (ss : List Stretch) (end m : ℕ) (y : Stretch) → Fill from ss end → end ≤ m → m < y.end → value_in (ss ++ y ∷ []) m ≡ y.value
@@ -35,11 +33,11 @@ AreJoined-push ss y joined other k d in' =
     let count : length (ss ++ y ∷ []) ≡ length ss + 1 = length_push ss y in
     let first : get_or (ss ++ y ∷ []) k d ≡ get_or ss k d = get_or_append_left ss (y ∷ []) d k (omega arith) in
     elim (cases_lt (k + 1) (length ss)) [
-    | inl inner ↦ rw (first, get_or_append_left ss (y ∷ []) d (k + 1) inner) (joined k d inner)
-    | inr last ↦
-      let place : length ss ≡ k + 1 = omega arith in
-      let before : length ss - 1 ≡ k = omega arith in
-      rw (first, get_or_push ss y d (k + 1) place) (rw before at (other d (omega arith)))
+      | inl inner ↦ rw (first, get_or_append_left ss (y ∷ []) d (k + 1) inner) (joined k d inner)
+      | inr last ↦
+          let place : length ss ≡ k + 1 = omega arith in
+          let before : length ss - 1 ≡ k = omega arith in
+          rw (first, get_or_push ss y d (k + 1) place) (rw before at (other d (omega arith)))
     ]
 
 pub lengthened_push : (from : ℕ) (ss : List Stretch) (end : ℕ) (y : Stretch) → IsLaid from end ss → end < y.end → ((d : Stretch) → 0 < length ss → (get_or ss (length ss - 1) d).value ≢ y.value) → IsLengthened from end y.end y.value ss (ss ++ y ∷ [])
@@ -80,8 +78,8 @@ value_in-set_level from (s ∷ rest) end (suc i) m y last h low high =
 value-set : (ss : List Stretch) (i k : ℕ) (y d : Stretch) → i < length ss → (get_or ss i d).value ≡ y.value → (get_or (set ss i y) k d).value ≡ (get_or ss k d).value
 value-set ss i k y d there same =
     elim (cases_eq k i) [
-    | inl here ↦ rw (here, get_or-set_same ss i y d there) (sym same)
-    | inr other ↦ ap (λ (s : Stretch). s.value) (get_or-set_other ss i k y d other)
+      | inl here ↦ rw (here, get_or-set_same ss i y d there) (sym same)
+      | inr other ↦ ap (λ (s : Stretch). s.value) (get_or-set_other ss i k y d other)
     ]
 
 AreJoined-set : (ss : List Stretch) (i : ℕ) (y : Stretch) → i < length ss → ((d : Stretch) → (get_or ss i d).value ≡ y.value) → AreJoined ss → AreJoined (set ss i y)

@@ -1,7 +1,6 @@
 -- What pieces put on a minute: one piece, no piece, the pieces of two lists; and how much that can be.
-use Rattle.std.proofs.Common.{◌≡◌, ℕ, ◌+◌, ◌<◌, ◌≤◌, true, false, leb, ltb, ◌&&◌, cond, List, [], ◌∷◌, ◌++◌, fold, ℤ, pos, ◌+ℤ◌, refl, ap, sym, ◌∙◌, arith}
+use Rattle.std.proofs.Common.{◌≡◌, ℕ, ◌<◌, ◌≤◌, true, false, leb, ltb, ◌&&◌, cond, List, [], ◌∷◌, ◌++◌, fold, ℤ, pos, ◌+ℤ◌, refl, ◌∙◌, arith}
 use Rattle.std.specs.Int.RustNames.{unsigned_abs}
-use Rattle.std.proofs.lemmas.Bool.{cases_lt}
 use Rattle.std.proofs.lemmas.Int.{ints}
 use Rattle.std.proofs.lemmas.List.Sums.{sum_by-cons, fold-append}
 use Rattle.desk_spans.specs.declared.piece.Piece.{Piece}

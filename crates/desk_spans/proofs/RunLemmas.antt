@@ -1,5 +1,5 @@
 -- Runs with one more behind them: appended, or joined with the last.
-use Rattle.std.proofs.Common.{◌≡◌, ◌≢◌, ℕ, zero, suc, ◌+◌, ◌-◌, ◌<◌, ◌≤◌, Bool, true, false, leb, ltb, ◌&&◌, ◌||◌, List, [], ◌∷◌, ◌++◌, length, get_or, set, refl, ap, sym, subst, ◌∙◌, inl, inr, arith}
+use Rattle.std.proofs.Common.{◌≡◌, ℕ, zero, suc, ◌+◌, ◌<◌, ◌≤◌, Bool, true, false, leb, ltb, ◌||◌, List, [], ◌∷◌, ◌++◌, length, get_or, set, refl, ap, sym, subst, ◌∙◌, inl, inr, arith}
 use Rattle.std.specs.List.{All}
 use Rattle.std.proofs.lemmas.Bool.{cases_lt}
 use Rattle.std.proofs.lemmas.List.{get_or_default}
@@ -57,22 +57,22 @@ AreApart-set low (r ∷ rest) (suc i) run d last apart some touch = (apart.0, ap
 covers_joined : (r run : Run) (m : ℕ) → r.from < r.to → run.from < run.to → r.to ≡ run.from → covers (record { from = r.from; to = run.to }) m ≡ (covers r m || covers run m)
 covers_joined r run m there some touch =
     elim (cases_lt m r.from) [
-    | inl before ↦
-      let a : leb r.from m ≡ false = grind arith in
-      let b : leb run.from m ≡ false = grind arith in
-      rw (a, b) refl
-    | inr begun ↦
-      let a : leb r.from m ≡ true = grind arith in
-      elim (cases_lt m r.to) [
-      | inl first ↦
-        let b : ltb m r.to ≡ true = grind arith in
-        let c : ltb m run.to ≡ true = grind arith in
-        rw (a, b, c) refl
-      | inr second ↦
-        let b : ltb m r.to ≡ false = grind arith in
-        let c : leb run.from m ≡ true = grind arith in
-        rw (a, b, c) refl
-      ]
+      | inl before ↦
+          let a : leb r.from m ≡ false = grind arith in
+          let b : leb run.from m ≡ false = grind arith in
+          rw (a, b) refl
+      | inr begun ↦
+          let a : leb r.from m ≡ true = grind arith in
+          elim (cases_lt m r.to) [
+            | inl first ↦
+                let b : ltb m r.to ≡ true = grind arith in
+                let c : ltb m run.to ≡ true = grind arith in
+                rw (a, b, c) refl
+            | inr second ↦
+                let b : ltb m r.to ≡ false = grind arith in
+                let c : leb run.from m ≡ true = grind arith in
+                rw (a, b, c) refl
+          ]
     ]
 
 has_minute-set : (low : ℕ) (rs : List Run) (i : ℕ) (run d : Run) (m : ℕ) → suc i ≡ length rs → AreApart low rs → run.from < run.to → (get_or rs i d).to ≡ run.from → has_minute (set rs i (record { from = (get_or rs i d).from; to = run.to })) m ≡ (has_minute rs m || covers run m)

@@ -1,7 +1,7 @@
 -- How stretches that fill a window are found, cut and lengthened.
-use Rattle.std.proofs.Common.{◌≡◌, ◌≢◌, ℕ, zero, suc, ◌+◌, ◌-◌, ◌<◌, ◌≤◌, Bool, true, false, leb, ltb, cond, List, [], ◌∷◌, ◌++◌, length, get_or, take, drop, ℤ, pos, refl, add-one, arith}
+use Rattle.std.proofs.Common.{◌≡◌, ℕ, zero, suc, ◌<◌, ◌≤◌, true, false, leb, ltb, List, [], ◌∷◌, length, drop, refl, add-one, arith}
 use Rattle.std.specs.List.{AllAdjacentBelow, AllWithin}
-use Rattle.std.specs.List.Sorted.{IsNonDecreasingBy, IsPartitionedBy}
+use Rattle.std.specs.List.Sorted.{IsPartitionedBy}
 use Rattle.std.proofs.lemmas.List.Sorted.{IsNonDecreasingBy-from_all_adjacent, IsPartitionedBy-leb}
 use Rattle.desk_spans.specs.declared.stretch.Stretch.{Stretch}
 use Rattle.desk_spans.specs.Laid.{Fill, value_in}

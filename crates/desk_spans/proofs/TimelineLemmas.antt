@@ -1,6 +1,5 @@
 -- What a timeline of stretches shows: its end, and its value at a minute.
-use Rattle.std.proofs.Common.{◌≡◌, ℕ, ◌+◌, ◌-◌, ◌<◌, ◌≤◌, List, length, map, get_or, ℤ, pos, arith, ◌∙◌, ap, sym, refl, zero, suc, take, drop, fold, ◌+ℤ◌, ◌*ℤ◌, length-drop, add-one}
-use Rattle.std.specs.List.{range_with_len}
+use Rattle.std.proofs.Common.{◌≡◌, ℕ, ◌+◌, ◌-◌, ◌<◌, ◌≤◌, List, length, get_or, ℤ, pos, arith, ◌∙◌, ap, zero, suc, take, drop, fold, ◌+ℤ◌, ◌*ℤ◌, length-drop}
 use Rattle.std.proofs.lemmas.List.FromFn.{length-map-range_with_len, get_or-map-range_with_len}
 use Rattle.std.proofs.lemmas.Int.{ints}
 use Rattle.std.proofs.lemmas.List.{get_or-drop}
@@ -19,12 +18,6 @@ end_of-timeline from to ss h = omega (arith, length-timeline from to ss)
 pub value_at-timeline : (from to : ℕ) (ss : List Stretch) (m : ℕ) → from ≤ m → m < to → value_at (timeline from to ss) m ≡ value_in ss m
 value_at-timeline from to ss m low high =
     get_or-map-range_with_len (value_in ss) from (to - from) (m - from) m (pos 0) (omega arith) (omega arith)
-
--- the sum of an empty range
-pub sum_on_none : (t : Timeline) (from : ℕ) → sum_on t from from ≡ pos 0
-sum_on_none t from =
-    let none : (from - t.from) - (from - t.from) ≡ 0 = omega arith in
-    rw none refl
 
 -- the sum of a range with one minute more
 pub sum_on_more : (t : Timeline) (from m : ℕ) → t.from ≤ from → from ≤ m → m < end_of t → sum_on t from (m + 1) ≡ sum_on t from m +ℤ value_at t m

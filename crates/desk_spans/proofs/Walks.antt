@@ -40,9 +40,9 @@ walk_on t from start ss i there w =
       begun = omega (arith, w.begun, fill.0);
       fill = fill.1;
       values = λ m low high.
-        let value = rw (at_hand ss i there) at (w.values m (omega (arith, fill.0)) high) in
-        let behind : ltb m (stretch_at ss i).end ≡ false = grind arith in
-        rw behind at value;
+          let value = rw (at_hand ss i there) at (w.values m (omega (arith, fill.0)) high) in
+          let behind : ltb m (stretch_at ss i).end ≡ false = grind arith in
+          rw behind at value;
     }
 
 -- it is not empty, and ends inside the window
@@ -74,8 +74,8 @@ first_there from (s ∷ rest) to fill h = omega arith
 next_there : (t : Timeline) (from start : ℕ) (ss : List Stretch) (i : ℕ) → i < length ss → Walks t from start (drop i ss) → (stretch_at ss i).end < end_of t → i + 1 < length ss
 next_there t from start ss i there w inside =
     elim (cases_lt (i + 1) (length ss)) [
-    | inl more ↦ more
-    | inr out ↦ absurd (omega (arith, walk_done t from (stretch_at ss i).end ss (i + 1) out (walk_on t from start ss i there w)))
+      | inl more ↦ more
+      | inr out ↦ absurd (omega (arith, walk_done t from (stretch_at ss i).end ss (i + 1) out (walk_on t from start ss i there w)))
     ]
 
 -- where the first stretch ends, the value is another
@@ -98,12 +98,3 @@ walk_begins t from to ss is fill =
       values = λ m low high. sym (value_at-timeline from to ss m low (rw ends at high));
     } in
     subst (λ (u : Timeline). Walks u u.from u.from ss) is walks
-
--- within the first stretch the walk may stop anywhere
-pub walk_within : (t : Timeline) (from start end : ℕ) (ss : List Stretch) → 0 < length ss → Walks t from start ss → start ≤ end → end < (stretch_at ss 0).end → Walks t from end ss
-walk_within t from start end [] there w later within = absurd (omega arith)
-walk_within t from start end (s ∷ rest) there w later within = record {
-  begun = omega (arith, w.begun);
-  fill = (within, w.fill.1);
-  values = λ m low high. w.values m (omega arith) high;
-}

@@ -1,5 +1,5 @@
 -- How stretches lie in a window, and the values that they mean.
-use Rattle.std.specs.Prelude.{◌≡◌, ◌≢◌, ℕ, ◌+◌, ◌-◌, ◌<◌, List, [], ◌∷◌, length, map, nat_lt, if◌then◌else◌, ℤ, pos}
+use Rattle.std.specs.Prelude.{◌≡◌, ◌≢◌, ℕ, ◌-◌, ◌<◌, List, [], ◌∷◌, length, map, nat_lt, if◌then◌else◌, ℤ, pos}
 use Rattle.std.specs.List.{AllAdjacentBelow, range_with_len}
 use Rattle.desk_spans.specs.declared.stretch.Stretch.{Stretch}
 use Rattle.desk_spans.specs.Minutes.{EachMinute}

@@ -35,7 +35,11 @@ fn pieces_that_overlap_add_up(rt: HostRuntime) -> Result<(), Fail> {
     assert_eq!(rt; profile.to(), 25);
     let values = [3, 3, 5, 5, 5, 0, 0, 0, -2, -2, -5, -5, -5, -5, -5];
     for minute in 10..25u32 {
-        assert_eq!(rt; profile.at(minute), values[minute as usize - 10], "at {minute}");
+        assert_eq!(rt;
+            profile.at(minute),
+            values[minute as usize - 10],
+            "at {minute}"
+        );
     }
     assert_eq!(rt; profile.next_change(10), Some(12));
     assert_eq!(rt; profile.next_change(14), Some(15));
@@ -101,16 +105,27 @@ fn runs_of(alloc: Global, ranges: &[(u32, u32)]) -> Option<Runs> {
 #[test]
 fn runs_that_touch_are_joined(rt: HostRuntime) -> Result<(), Fail> {
     let runs = runs_of(rt.alloc(), &[(3, 5), (5, 9), (9, 9), (10, 12)]).ok_or("no runs")?;
-    assert_eq!(rt; runs.as_slice(), [Run { from: 3, to: 9 }, Run { from: 10, to: 12 }].as_slice());
+    assert_eq!(rt;
+        runs.as_slice(),
+        [Run { from: 3, to: 9 }, Run { from: 10, to: 12 }].as_slice()
+    );
     Ok(())
 }
 
 #[test]
 fn what_two_have_in_common(rt: HostRuntime) -> Result<(), Fail> {
     let rows = [
-        ([(0, 10), (20, 20)], [(5, 15), (20, 20)], [(5, 10), (20, 20)]),
+        (
+            [(0, 10), (20, 20)],
+            [(5, 15), (20, 20)],
+            [(5, 10), (20, 20)],
+        ),
         ([(0, 10), (20, 30)], [(10, 20), (30, 31)], [(0, 0), (0, 0)]),
-        ([(0, 30), (40, 50)], [(5, 10), (12, 40)], [(5, 10), (12, 30)]),
+        (
+            [(0, 30), (40, 50)],
+            [(5, 10), (12, 40)],
+            [(5, 10), (12, 30)],
+        ),
     ];
     for (a, b, wanted) in rows {
         let a = runs_of(rt.alloc(), &a).ok_or("no runs")?;

@@ -1,5 +1,5 @@
-use Rattle.std.proofs.Common.{◌≡◌, ◌*ℤ◌, pos, rules, arith}
-use Rattle.std.proofs.lemmas.Int.{ints, to_z-of_z}
+use Rattle.std.proofs.Common.{rules}
+use Rattle.std.proofs.lemmas.Int.{to_z-of_z}
 use Rattle.desk_spans.proofs.Sizes.{unsigned_abs-times}
 use Rattle.desk_spans.proofs.profile.minutes_times.Goals as goal
 

@@ -1,4 +1,4 @@
-use Rattle.std.proofs.Common.{◌≡◌, ◌≢◌, ℕ, ◌-◌, ◌<◌, List, length, get_or, rules, arith, ap, ◌∙◌, sym, w64, to_z, of_z, FitsSigned}
+use Rattle.std.proofs.Common.{◌≡◌, ℕ, ◌-◌, ◌<◌, List, length, get_or, rules, arith, ap, ◌∙◌, sym, w64, to_z, of_z, FitsSigned}
 use Rattle.std.proofs.lemmas.List.{get_or_default}
 use Rattle.std.proofs.lemmas.Int.{to_z-of_z}
 use Rattle.desk_spans.specs.declared.stretch.Stretch.{Stretch}
@@ -24,8 +24,8 @@ returns-in-Ok-clause-ok c from end laid later =
     (lengthened_push from _ end (record { end = c.args.to; value = c.args.value }) laid later
     (λ d some same. elim c.else-count-gt0.branch [
       | else-count-gt0-via-then-count-gt0+else-index-value w ↦
-        let count : c.len-count.result ≡ length c.args.stretches.now.items = omega arith in
-        let here = rw count at (value_read c.args.stretches.now.items (c.len-count.result - 1) w.index.result.now d (omega arith) w.index.ensures) in
-        w.if-index-value.false (ap (of_z w64) (sym here ∙ same))
+          let count : c.len-count.result ≡ length c.args.stretches.now.items = omega arith in
+          let here = rw count at (value_read c.args.stretches.now.items (c.len-count.result - 1) w.index.result.now d (omega arith) w.index.ensures) in
+          w.if-index-value.false (ap (of_z w64) (sym here ∙ same))
       | else-count-gt0-via-else-count-gt0 w ↦ absurd (omega arith)
-      ]))
+    ]))

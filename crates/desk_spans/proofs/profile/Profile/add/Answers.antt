@@ -1,8 +1,7 @@
-use Rattle.std.proofs.Common.{◌≡◌, ◌<◌, ◌≤◌, ◌+ℤ◌, pos, inl, inr, arith, w64, sym, subst, ◌∙◌}
+use Rattle.std.proofs.Common.{◌≡◌, ◌+ℤ◌, inl, inr, arith, w64, sym, subst, ◌∙◌}
 use Rattle.std.proofs.lemmas.Bool.{cases_lt}
 use Rattle.std.proofs.lemmas.Int.{ints, to_z-of_z}
 use Rattle.desk_spans.specs.Timeline.{Timeline, value_at}
-use Rattle.desk_spans.specs.Pieces.{share}
 use Rattle.desk_spans.proofs.PieceLemmas.{share_inside, share_before, share_behind}
 use Rattle.desk_spans.proofs.profile.Profile.add.Goals as goal
 
@@ -10,12 +9,12 @@ pub sum_of-requires-clause-bounds : goal.sum_of-requires-clause-bounds
 sum_of-requires-clause-bounds c m low high =
     let more = c.in_ok-more.ensures.values m (omega arith) (omega arith) in
     elim (cases_lt m c.args.from) [
-    | inl before ↦ inl (more ∙ share_before _ m before)
-    | inr begun ↦ elim (cases_lt m c.args.to) [
-      | inl within ↦
-        let value = more ∙ share_inside _ m begun within ∙ to_z-of_z w64 _ c.ranges.value in
-        inr (rw value (omega (arith, ints, c.requires.bounds m begun within)))
-      | inr behind ↦ inl (more ∙ share_behind _ m behind)
+      | inl before ↦ inl (more ∙ share_before _ m before)
+      | inr begun ↦ elim (cases_lt m c.args.to) [
+        | inl within ↦
+            let value = more ∙ share_inside _ m begun within ∙ to_z-of_z w64 _ c.ranges.value in
+            inr (rw value (omega (arith, ints, c.requires.bounds m begun within)))
+        | inr behind ↦ inl (more ∙ share_behind _ m behind)
       ]
     ]
 

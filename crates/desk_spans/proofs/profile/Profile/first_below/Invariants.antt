@@ -1,4 +1,4 @@
-use Rattle.std.proofs.Common.{◌≡◌, ◌≤ℤ◌, ◌<◌, drop}
+use Rattle.std.proofs.Common.{◌≤ℤ◌, ◌<◌, drop}
 use Rattle.desk_spans.specs.Minutes.{EachMinute}
 use Rattle.desk_spans.specs.Timeline.{value_at}
 use Rattle.desk_spans.proofs.Walks.{Walks}

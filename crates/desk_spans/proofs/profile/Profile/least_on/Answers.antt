@@ -1,8 +1,6 @@
-use Rattle.std.proofs.Common.{rules, ◌≡◌, ◌≤ℤ◌, ◌<◌, ◌≤◌, ◌+◌, drop, get_or, FitsSigned, w64, to_z, of_z, arith, refl, sym, ◌∙◌, inl, inr}
+use Rattle.std.proofs.Common.{rules, arith, inl, inr}
 use Rattle.std.proofs.lemmas.Bool.{cases_lt}
-use Rattle.std.proofs.lemmas.Int.{ints, clamps, to_z-of_z, by_lt_z}
-use Rattle.desk_spans.specs.Minutes.{EachMinute, SomeMinute}
-use Rattle.desk_spans.specs.Timeline.{value_at}
+use Rattle.std.proofs.lemmas.Int.{ints, clamps, by_lt_z}
 use Rattle.desk_spans.proofs.Walks.{Walks, stretch_at, first_there, walk_value, walk_on, walk_end}
 use Rattle.desk_spans.proofs.profile.Profile.least_on.Goals as goal
 
@@ -27,8 +25,8 @@ loop-stretch-preserved c =
       bound = λ m low high inside. elim (cases_lt m c.loop-stretch.start) [
         | inl before ↦ omega (arith, ints, clamps, c.loop-stretch.invariant.bound m low before inside)
         | inr here ↦ omega (arith, ints, clamps, walk_value _ _ _ _ _ there walks m here high)
-        ];
+      ];
       reached = by_lt_z (stretch_at c.stretches_from-stretches.result.now c.loop-stretch.stretch-index).value c.loop-stretch.least
-        (λ less. (c.loop-stretch.start, omega (arith, walks.begun), omega arith, omega (arith, ints, clamps, less, walk_value _ _ _ _ _ there walks c.loop-stretch.start (omega arith) end.0)))
-        (λ more. (c.loop-stretch.invariant.reached.0, omega arith, omega arith, omega (arith, ints, clamps, more, c.loop-stretch.invariant.reached)));
+          (λ less. (c.loop-stretch.start, omega (arith, walks.begun), omega arith, omega (arith, ints, clamps, less, walk_value _ _ _ _ _ there walks c.loop-stretch.start (omega arith) end.0)))
+          (λ more. (c.loop-stretch.invariant.reached.0, omega arith, omega arith, omega (arith, ints, clamps, more, c.loop-stretch.invariant.reached)));
     }

@@ -1,6 +1,5 @@
-use Rattle.std.proofs.Common.{refl, arith, sym, ◌∙◌}
+use Rattle.std.proofs.Common.{arith, ◌∙◌}
 use Rattle.desk_spans.proofs.Walks.{Walks, first_there, walk_changes, walk_value, walk_end}
-use Rattle.desk_spans.specs.Timeline.{end_of, value_at}
 use Rattle.desk_spans.proofs.profile.Profile.next_change.Goals as goal
 
 pub returns-then-end-to-clause-changed : goal.returns-then-end-to-clause-changed

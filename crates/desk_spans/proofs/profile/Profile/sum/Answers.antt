@@ -1,8 +1,6 @@
-use Rattle.std.proofs.Common.{◌≡◌, ◌≤◌, ◌<◌, ◌+◌, ◌-◌, ◌*ℤ◌, pos, min, get_or, arith, FitsSigned, w64, rules, ◌∙◌, ap}
+use Rattle.std.proofs.Common.{◌≡◌, min, arith, FitsSigned, w64, rules}
 use Rattle.std.proofs.lemmas.Int.{ints, to_z-of_z}
-use Rattle.desk_spans.specs.Minutes.{EachMinute}
-use Rattle.desk_spans.specs.Timeline.{sum_on, value_at}
-use Rattle.desk_spans.proofs.Walks.{Walks, stretch_at, walk_sum, walk_on, walk_end}
+use Rattle.desk_spans.proofs.Walks.{stretch_at, walk_sum, walk_on, walk_end}
 use Rattle.desk_spans.proofs.profile.Profile.sum.Goals as goal
 
 pub overflow_add-total : goal.overflow_add-total

@@ -1,9 +1,8 @@
-use Rattle.std.proofs.Common.{◌≡◌, ◌<◌, ◌≤◌, ◌+ℤ◌, length, rules, arith, refl, ◌∙◌, FitsSigned, w64, inl, inr}
+use Rattle.std.proofs.Common.{◌≡◌, ◌<◌, length, rules, arith, refl, ◌∙◌, FitsSigned, w64, inl, inr}
 use Rattle.std.proofs.lemmas.Bool.{cases_lt}
 use Rattle.std.proofs.lemmas.Int.{ints}
-use Rattle.desk_spans.specs.Minutes.{EachMinute}
-use Rattle.desk_spans.specs.Timeline.{end_of, value_at}
-use Rattle.desk_spans.proofs.Walks.{Walks, stretch_at, walk_begins, walk_value, walk_end}
+use Rattle.desk_spans.specs.Timeline.{end_of}
+use Rattle.desk_spans.proofs.Walks.{stretch_at, walk_begins, walk_value, walk_end}
 use Rattle.desk_spans.proofs.profile.Profile.sum_of.Goals as goal
 
 pub loop-left-init : goal.loop-left-init
@@ -30,8 +29,8 @@ overflow_add-s c =
     let t = walk_value _ _ _ _ 0 some_right c.loop-left.invariant.right start (omega arith) right.0 in
     let fits : FitsSigned w64 (stretch_at c.loop-left.left.now 0).value = search rules in
     elim (c.requires.bounds start (omega (arith, c.loop-left.invariant.left.begun)) (omega (arith, left))) [
-    | inl none ↦ omega (arith, ints, s, t, none, fits)
-    | inr bound ↦ omega (arith, ints, s, t, bound)
+      | inl none ↦ omega (arith, ints, s, t, none, fits)
+      | inr bound ↦ omega (arith, ints, s, t, bound)
     ]
 
 pub lay-requires : goal.lay-requires
@@ -56,13 +55,13 @@ loop-left-preserved c =
       sums = λ m low high. elim (cases_lt m (end_of c.loop-left.sum)) [
         | inl before ↦ c.in_ok-lay.ensures.before m (omega arith) before ∙ c.loop-left.invariant.sums m low before
         | inr here ↦
-          let laid = c.in_ok-lay.ensures.level m here (omega arith) in
-          let s = walk_value _ _ _ _ 0 some_left c.loop-left.invariant.left m here (omega arith) in
-          let t = walk_value _ _ _ _ 0 some_right c.loop-left.invariant.right m here (omega arith) in
-          let fits : FitsSigned w64 (stretch_at c.loop-left.left.now 0).value = search rules in
-          elim (c.requires.bounds m low (omega arith)) [
-          | inl none ↦ omega (arith, ints, laid, s, t, none, fits)
-          | inr bound ↦ omega (arith, ints, laid, s, t, bound)
-          ]
-        ];
+            let laid = c.in_ok-lay.ensures.level m here (omega arith) in
+            let s = walk_value _ _ _ _ 0 some_left c.loop-left.invariant.left m here (omega arith) in
+            let t = walk_value _ _ _ _ 0 some_right c.loop-left.invariant.right m here (omega arith) in
+            let fits : FitsSigned w64 (stretch_at c.loop-left.left.now 0).value = search rules in
+            elim (c.requires.bounds m low (omega arith)) [
+              | inl none ↦ omega (arith, ints, laid, s, t, none, fits)
+              | inr bound ↦ omega (arith, ints, laid, s, t, bound)
+            ]
+      ];
     }

@@ -1,4 +1,4 @@
-use Rattle.std.proofs.Common.{refl, sym}
+use Rattle.std.proofs.Common.{sym}
 use Rattle.desk_spans.proofs.StretchLemmas.{Fill-le}
 use Rattle.desk_spans.proofs.TimelineLemmas.{end_of-timeline}
 use Rattle.desk_spans.proofs.profile.Profile.to.Goals as goal
