@@ -1,8 +1,8 @@
-pub mod StretchLemmas
-pub mod TimelineLemmas
-pub mod Walks
-pub mod Sizes
+pub mod Intersecting
 pub mod Lengthening
 pub mod PieceLemmas
 pub mod RunLemmas
-pub mod Intersecting
+pub mod Sizes
+pub mod StretchLemmas
+pub mod TimelineLemmas
+pub mod Walks

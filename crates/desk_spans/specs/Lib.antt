@@ -1,5 +1,5 @@
 pub mod Laid
 pub mod Minutes
 pub mod Pieces
-pub mod Timeline
 pub mod Runs
+pub mod Timeline

@@ -25,6 +25,10 @@ pub record IsRangeOf (t : Timeline) (from to : ℕ) : Type 0 where
   pub not_empty : from < to
   pub ends_inside : to ≤ end_of t
 
--- the value is within 10^14 either way
+-- how far from 0 a value may be, either way
+abbrev pub value_limit : ℕ
+value_limit = 10 ^ 14
+
+-- the value is within the limit
 abbrev pub IsBounded : ℤ → Type 0
-IsBounded value = unsigned_abs value ≤ 10 ^ 14
+IsBounded value = unsigned_abs value ≤ value_limit

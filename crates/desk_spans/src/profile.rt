@@ -1,9 +1,9 @@
 //! One signed value per minute of a window.
-ghost use Rattle.std.specs.Prelude.{◌≡◌, ◌≢◌, ◌⊎◌, ℕ, ◌+◌, ◌*◌, ◌^◌, ◌<◌, ◌≤◌, length, slice_index_or, IfSome, IfNone, IfOk, OnOk, OnErr, ◌≤ℤ◌, ◌<ℤ◌, pos, ◌+ℤ◌, ◌*ℤ◌, FitsSigned};
+ghost use Rattle.std.specs.Prelude.{◌≡◌, ◌≢◌, ◌⊎◌, ℕ, ◌+◌, ◌*◌, ◌^◌, ◌<◌, ◌≤◌, IfSome, IfNone, IfOk, OnOk, OnErr, ◌≤ℤ◌, ◌<ℤ◌, pos, ◌+ℤ◌, ◌*ℤ◌, FitsSigned};
 ghost use Rattle.std.specs.Int.{w64};
 ghost use Rattle.std.specs.Int.RustNames.{unsigned_abs};
 ghost use Rattle.desk_spans.specs.Minutes.{EachMinute, SomeMinute};
-ghost use Rattle.desk_spans.specs.Timeline.{end_of, value_at, sum_on, IsRangeOf, IsBounded};
+ghost use Rattle.desk_spans.specs.Timeline.{end_of, value_at, sum_on, IsRangeOf, IsBounded, value_limit};
 ghost use Rattle.desk_spans.specs.Pieces.{share, sum_at, weight_of};
 ghost use Rattle.desk_spans.specs.Laid.{Fill, AreJoined, value_in};
 
@@ -37,7 +37,7 @@ impl Profile {
     /// window counts for nothing. In time n log n, for n pieces.
     pub fn build(alloc: Global, from: u32, to: u32, pieces: &[Piece]) -> Result<Profile, NoMemory>
         requires window { from < to }
-        requires bounds { weight_of pieces.now ≤ 10 ^ 14 }
+        requires bounds { weight_of pieces.now ≤ value_limit }
         ensures window_from { IfOk result (λ p. p.from ≡ from) }
         ensures window_end { IfOk result (λ p. end_of p ≡ to) }
         ensures sums { IfOk result (λ p. EachMinute from to (λ m. value_at p m ≡ sum_at pieces.now m)) }

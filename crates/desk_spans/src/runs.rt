@@ -1,5 +1,5 @@
 //! Sets of minutes, kept as the runs that they are made of.
-ghost use Rattle.std.specs.Prelude.{◌≡◌, ℕ, ◌<◌, ◌≤◌, [], length, All, IfOk, OnOk, OnErr, ◌&&◌, ◌||◌, ◌↔◌, IsTrue};
+ghost use Rattle.std.specs.Prelude.{◌≡◌, ℕ, ◌<◌, ◌≤◌, [], length, All, IfOk, OnOk, OnErr, ◌&&◌, ◌||◌};
 ghost use Rattle.desk_spans.specs.Runs.{covers, has_minute, AreApart, IsAppended, without_ended};
 
 use crate::memory::NoMemory;
@@ -7,7 +7,7 @@ use crate::run::Run;
 use std::alloc::Global;
 use std::marker::Model;
 
-/// Runs that rise and do not touch, none of them empty: each set of minutes has one such list.
+/// A set of minutes, as the runs that it is made of: they rise, none is empty, and no two touch.
 #[derive(Debug, Drop)]
 pub struct Runs {
     runs: Vec<Run>,
