@@ -118,13 +118,13 @@ lower_within t asks m r e r' low =
 
 -- ---- the next minute
 
-nearer_after : (m n k : ℕ) → m < n → m < nearer m n k
+pub nearer_after : (m n k : ℕ) → m < n → m < nearer m n k
 nearer_after m n k h = grind (arith, nat_tests)
 
-nearer_below : (m n k : ℕ) → nearer m n k ≤ n
+pub nearer_below : (m n k : ℕ) → nearer m n k ≤ n
 nearer_below m n k = grind (arith, nat_tests)
 
-nearer_at : (m n k : ℕ) → m < k → nearer m n k ≤ k
+pub nearer_at : (m n k : ℕ) → m < k → nearer m n k ≤ k
 nearer_at m n k h = grind (arith, nat_tests)
 
 -- what the nearest of some minutes after m is

@@ -5,3 +5,4 @@ pub mod Parts
 pub mod Tests
 pub mod Places
 pub mod Clashes
+pub mod Events

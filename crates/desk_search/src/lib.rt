@@ -8,6 +8,7 @@
 
 pub mod capacity;
 mod clashes;
+mod events;
 mod lookup;
 mod search;
 
