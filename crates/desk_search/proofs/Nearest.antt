@@ -94,14 +94,18 @@ time_step {A} m l c calendar from to = record {
   where
     s : IsStep m (λ n (x : A). nearer_bound m n (m + minutes_until l (from x)) (m + minutes_until l (to x))) (λ x n. IsBefore m (m + minutes_until l (from x)) n × IsBefore m (m + minutes_until l (to x)) n)
     s = bound_step m (λ x. m + minutes_until l (from x)) (λ x. m + minutes_until l (to x))
+
     same : (a : ℕ) → a ≡ c → (a == c) ≡ true
     same a e = grind (arith, nat_tests)
+
     cond_after : (b : Bool) (n : ℕ) (x : A) → m < n → m < cond b (nearer_time m l n (from x) (to x)) n
     cond_after true n x h = s.after n x h
     cond_after false n x h = h
+
     cond_below : (b : Bool) (n : ℕ) (x : A) → cond b (nearer_time m l n (from x) (to x)) n ≤ n
     cond_below true n x = s.below n x
     cond_below false n x = omega arith
+
     cond_gives : (b : Bool) (n : ℕ) (x : A) → b ≡ true → IsUntil m l (from x) (cond b (nearer_time m l n (from x) (to x)) n) × IsUntil m l (to x) (cond b (nearer_time m l n (from x) (to x)) n)
     cond_gives true n x e = let g = s.gives n x in (g.0 (omega arith), g.1 (omega arith))
     cond_gives false n x e = cc
@@ -164,9 +168,11 @@ resource_step t m = record {
     some_after : (o : Option ℕ) (n : ℕ) → m < n → m < option_map_or (λ c. after_clock t c m n) o n
     some_after None n h = h
     some_after (Some c) n h = (clock_is t c m n).after h
+
     some_below : (o : Option ℕ) (n : ℕ) → option_map_or (λ c. after_clock t c m n) o n ≤ n
     some_below None n = omega arith
     some_below (Some c) n = (clock_is t c m n).below
+
     some_gives : (o : Option ℕ) (n c : ℕ) → o ≡ Some c → IsBeforeTimes t c m (clock_minute (shifts_of t c) m % minutes_a_day) (option_map_or (λ c. after_clock t c m n) o n)
     some_gives None n c e = cc
     some_gives (Some b) n c e =

@@ -27,6 +27,10 @@ pub within_from : (t : Tables) (asks : List Ask) (m r : ℕ) → has_room_at t a
 unfolding has_room_at
 within_from t asks m r e = (within_room_decides (weight t asks r m) (room t r m)).0 e
 
+pub room_from : (t : Tables) (asks : List Ask) (m r : ℕ) → IsWithinRoom t asks r m → has_room_at t asks m r ≡ true
+unfolding has_room_at
+room_from t asks m r h = (within_room_decides (weight t asks r m) (room t r m)).1 h
+
 -- it is enough that the rows of the resource have room
 within_by_rows : (t : Tables) (asks : List Ask) (m r : ℕ) → ((x : ResourceRow) → IsIn x t.resources → x.id ≡ r → has_room_at t asks m x.id ≡ true) → IsWithinRoom t asks r m
 within_by_rows t asks m r h = elim (find_cases (λ (x : ResourceRow). x.id == r) t.resources) [
@@ -161,7 +165,7 @@ quiet_within t asks r m h = within_zero (room t r m) (weight t asks r m) (weight
     within_zero None w e = tt
     within_zero (Some k) w e = omega arith
 
-not_false : (b : Bool) → (b ≡ true → ⊥) → b ≡ false
+pub not_false : (b : Bool) → (b ≡ true → ⊥) → b ≡ false
 not_false true h = absurd (h refl)
 not_false false h = refl
 

@@ -34,31 +34,33 @@ covers-still from to m k h a b = both (begun (le_or from m)) (ended (le_or to m)
   where
     le_or : (a b : ℕ) → (a ≤ b) ⊎ (b < a)
     le_or a b = grind arith
+
     begun : (from ≤ m) ⊎ (m < from) → nat_le from k ≡ nat_le from m
     begun (inl l) = let i : from ≤ k = omega arith in grind (arith, nat_tests)
     begun (inr l) = let i : k < from = a l in grind (arith, nat_tests)
+
     ended : (to ≤ m) ⊎ (m < to) → nat_lt k to ≡ nat_lt m to
     ended (inl l) = let i : to ≤ k = omega arith in grind (arith, nat_tests)
     ended (inr l) = let i : k < to = b l in grind (arith, nat_tests)
+
     both : nat_le from k ≡ nat_le from m → nat_lt k to ≡ nat_lt m to → covers from to k ≡ covers from to m
     both e f = ap (λ b. b && nat_lt k to) e ∙ ap (λ b. nat_le from m && b) f
 
-any_same : {A : Type 0} (p q : A → Bool) (xs : List A) → ((x : A) → IsIn x xs → p x ≡ q x) → list_any p xs ≡ list_any q xs
+pub any_same : {A : Type 0} (p q : A → Bool) (xs : List A) → ((x : A) → IsIn x xs → p x ≡ q x) → list_any p xs ≡ list_any q xs
 any_same p q [] h = refl
 any_same p q (x ∷ xs) h = ap (λ b. b || list_any p xs) (h x (inl refl)) ∙ ap (λ b. q x || b) (any_same p q xs (λ y i. h y (inr i)))
 
-find_same : {A : Type 0} (p q : A → Bool) (xs : List A) → ((x : A) → IsIn x xs → p x ≡ q x) → find p xs ≡ find q xs
+pub find_same : {A : Type 0} (p q : A → Bool) (xs : List A) → ((x : A) → IsIn x xs → p x ≡ q x) → find p xs ≡ find q xs
 find_same p q [] h = refl
 find_same p q (x ∷ xs) h = ap (λ b. cond b (Some x) (find p xs)) (h x (inl refl)) ∙ ap (λ o. cond (q x) (Some x) o) (find_same p q xs (λ y i. h y (inr i)))
 
-filter_same : {A : Type 0} (p q : A → Bool) (xs : List A) → ((x : A) → IsIn x xs → p x ≡ q x) → filter p xs ≡ filter q xs
+pub filter_same : {A : Type 0} (p q : A → Bool) (xs : List A) → ((x : A) → IsIn x xs → p x ≡ q x) → filter p xs ≡ filter q xs
 filter_same p q [] h = refl
 filter_same p q (x ∷ xs) h = ap (λ b. cond b (x ∷ filter p xs) (filter p xs)) (h x (inl refl)) ∙ ap (λ l. cond (q x) (x ∷ l) l) (filter_same p q xs (λ y i. h y (inr i)))
 
--- where the first test fails the second need not be the same
-and_same : (a b c : Bool) → (a ≡ true → b ≡ c) → (a && b) ≡ (a && c)
-and_same true b c h = h refl
-and_same false b c h = refl
+pub sum_same : {A : Type 0} (f g : A → ℕ) (xs : List A) → ((x : A) → f x ≡ g x) → sum_by f xs ≡ sum_by g xs
+sum_same f g [] h = refl
+sum_same f g (x ∷ xs) h = let a = sum_by-cons f x xs in let b = sum_by-cons g x xs in let e = h x in let r = sum_same f g xs h in omega arith
 
 -- ---- clocks
 
@@ -70,6 +72,7 @@ shifts_still (s ∷ ss) m k h a =
   where
     le_or : (a b : ℕ) → (a ≤ b) ⊎ (b < a)
     le_or a b = grind arith
+
     begun : (s.0 ≤ m) ⊎ (m < s.0) → nat_le s.0 k ≡ nat_le s.0 m
     begun (inl l) = let i : s.0 ≤ k = omega arith in grind (arith, nat_tests)
     begun (inr l) = let i : k < s.0 = a s (inl refl) l in grind (arith, nat_tests)
@@ -177,10 +180,6 @@ module _ (t : Tables) (asks : List Ask) (m k : ℕ) (later : m ≤ k) (still : A
 
   members-still : (g : ℕ) → members t g k ≡ members t g m
   members-still g = ap (map (λ (x : MemberRow). x.member)) (filter_same (λ (x : MemberRow). (x.group == g) && covers x.from x.to k) (λ (x : MemberRow). (x.group == g) && covers x.from x.to m) t.members (λ x i. ap (λ b. (x.group == g) && b) (covers-still x.from x.to m k later (still.members x i).0 (still.members x i).1)))
-
-  sum_same : {A : Type 0} (f g : A → ℕ) (xs : List A) → ((x : A) → f x ≡ g x) → sum_by f xs ≡ sum_by g xs
-  sum_same f g [] h = refl
-  sum_same f g (x ∷ xs) h = let a = sum_by-cons f x xs in let b = sum_by-cons g x xs in let e = h x in let r = sum_same f g xs h in omega arith
 
   room_by-still : (s : LoadSort) (r : ℕ) → room_by s t r k ≡ room_by s t r m
   room_by-still plain r = ap Some (capacity-still r)

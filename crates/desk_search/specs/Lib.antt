@@ -6,3 +6,4 @@ pub mod Tests
 pub mod Places
 pub mod Clashes
 pub mod Events
+pub mod Extracts

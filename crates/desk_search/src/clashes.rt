@@ -9,6 +9,7 @@ ghost use Rattle.desk_search.specs.Rooms.{has_room_at};
 ghost use Rattle.desk_search.specs.Clashes.{lesser, next_over, least_over, is_busy, nearer, next_start, IsFirstOver};
 
 use crate::events::{next_event, next_start};
+use crate::extracts::bearing;
 use crate::search::asks::ask_of;
 use crate::search::load::{covers, has_room_at, load, room, weight};
 use desk_base::{Ask, BookingRow, Clash, Minute, NoMemory, ResourceId, Shown, Tables};
@@ -96,6 +97,16 @@ fn first_over(alloc: Global, tables: &Tables, asks: &[Ask]) -> Result<Option<Pla
     Ok(None)
 }
 
+/// The same, looked for in the rows that bear on the bookings alone.
+fn first_place(alloc: Global, tables: &Tables, asks: &[Ask]) -> Result<Option<Place>, NoMemory>
+    requires { length asks.now ≤ 2 ^ 20 }
+    ensures { IfOk result (λ p. MatchOption p (Fits tables.now asks.now) (λ p. IsFirstOver tables.now asks.now p.resource p.minute)) }
+{
+    let part = bearing(alloc, tables, asks)?;
+    let found = first_over(alloc, &part, asks)?;
+    Ok(found)
+}
+
 /// The standing bookings, as uses of their resources.
 fn uses_of(alloc: Global, standing: &[BookingRow]) -> Result<Vec<Ask>, AllocError>
     ensures { IfOk result (λ v. v.items ≡ map ask_of standing.now) }
@@ -179,7 +190,7 @@ pub fn clash(
 {
     let uses = uses_of(alloc, standing)?;
     let all = together(alloc, uses.as_slice(), asked)?;
-    let Some(place) = first_over(alloc, tables, all.as_slice())? else {
+    let Some(place) = first_place(alloc, tables, all.as_slice())? else {
         return Ok(None);
     };
     Ok(Some(Clash {

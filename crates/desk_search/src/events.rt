@@ -17,7 +17,11 @@ const DAY: u32 = 1440;
 fn nearer(minute: u32, near: u32, other: u32) -> u32
     ensures { result ≡ nearer minute near other }
 {
-    if minute < other && other < near { other } else { near }
+    if minute < other && other < near {
+        other
+    } else {
+        near
+    }
 }
 
 /// The first start of a booking after the minute, or the end of the horizon.
