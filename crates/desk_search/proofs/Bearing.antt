@@ -1,5 +1,5 @@
 -- The extract of the tables for some bookings has room exactly where the tables have.
-use Rattle.std.proofs.Common.{◌≡◌, ℕ, ◌+◌, ◌<◌, ◌≤◌, Bool, true, false, cond, ◌&&◌, ◌||◌, ◌==◌, List, [], ◌∷◌, ◌++◌, map, Option, Some, None, ◌⊎◌, inl, inr, refl, sym, ap, ◌∙◌, subst, arith}
+use Rattle.std.proofs.Common.{◌≡◌, ℕ, ◌+◌, ◌≤◌, Bool, true, false, cond, ◌&&◌, ◌||◌, ◌==◌, List, [], ◌∷◌, ◌++◌, map, Option, Some, None, ◌⊎◌, inl, inr, refl, sym, ap, ◌∙◌, subst, arith}
 use Rattle.std.proofs.lemmas.Bool.{false≢true}
 use Rattle.std.proofs.lemmas.Bool.Decides.{nat_tests}
 use Rattle.std.proofs.lemmas.List.Sums.{sum_by-cons}
@@ -25,7 +25,7 @@ use Rattle.desk_search.specs.Rooms.{has_room_at}
 use Rattle.desk_search.specs.Clashes.{IsFirstOver}
 use Rattle.desk_search.specs.Extracts.{is_listed, with_id, booked_ids, with_members, with_groups, calendars_of, zones_of, resources_among, calendars_among, extract_by, extract, bearing}
 use Rattle.desk_search.specs.declared.clashes.Place.{Place}
-use Rattle.desk_search.proofs.Steady.{any_same, find_same, sum_same}
+use Rattle.desk_search.proofs.Steady.{sum_same}
 use Rattle.desk_search.proofs.Overs.{within_from, not_false, room_from}
 
 -- ---- what a filter keeps
@@ -165,35 +165,35 @@ keeps_by : (ids : List ℕ) (n k : ℕ) → IsIn n ids → (k == n) ≡ true →
 keeps_by ids n k i e = in_listed ids k (subst (λ m. IsIn m ids) (sym (same k n e)) i)
 
 module _ (t : Tables) (ids calendars zones : List ℕ) (complete : AreComplete t ids calendars zones) where
-  abbrev part : Tables
-  part = extract_by t ids calendars zones
+  abbrev narrowed : Tables
+  narrowed = extract_by t ids calendars zones
 
-  resource_kept : (r : ℕ) → IsIn r ids → resource_of part r ≡ resource_of t r
+  resource_kept : (r : ℕ) → IsIn r ids → resource_of narrowed r ≡ resource_of t r
   resource_kept r i = find_kept (λ (x : ResourceRow). x.id == r) (λ x. is_listed ids x.id) t.resources (λ x e. keeps_by ids r x.id i e)
 
-  sort_kept : (r : ℕ) → IsIn r ids → sort_of part r ≡ sort_of t r
+  sort_kept : (r : ℕ) → IsIn r ids → sort_of narrowed r ≡ sort_of t r
   sort_kept r i = ap (λ o. option_map_or (λ (x : ResourceRow). sort_of_kind x.kind) o unknown) (resource_kept r i)
 
-  members_kept : (r m : ℕ) → IsIn r ids → members part r m ≡ members t r m
+  members_kept : (r m : ℕ) → IsIn r ids → members narrowed r m ≡ members t r m
   members_kept r m i = ap (map (λ (x : MemberRow). x.member)) (filter_kept (λ (x : MemberRow). (x.group == r) && covers x.from x.to m) (λ x. is_listed ids x.group) t.members (λ x e. keeps_by ids r x.group i (and_left (x.group == r) (covers x.from x.to m) e)))
 
-  zone_kept : (z : ℕ) → IsIn z zones → find (λ (x : ZoneRow). x.id == z) part.zones ≡ find (λ (x : ZoneRow). x.id == z) t.zones
+  zone_kept : (z : ℕ) → IsIn z zones → find (λ (x : ZoneRow). x.id == z) narrowed.zones ≡ find (λ (x : ZoneRow). x.id == z) t.zones
   zone_kept z i = find_kept (λ (x : ZoneRow). x.id == z) (λ x. is_listed zones x.id) t.zones (λ x e. keeps_by zones z x.id i e)
 
-  shifts_kept : (c : ℕ) → IsIn c calendars → shifts_of part c ≡ shifts_of t c
+  shifts_kept : (c : ℕ) → IsIn c calendars → shifts_of narrowed c ≡ shifts_of t c
   shifts_kept c i =
       let row = find_kept (λ (x : CalendarRow). x.id == c) (λ x. is_listed calendars x.id) t.calendars (λ x e. keeps_by calendars c x.id i e) in
-      elim (find_cases (λ (x : CalendarRow). x.id == c) part.calendars) [
+      elim (find_cases (λ (x : CalendarRow). x.id == c) narrowed.calendars) [
         | inl e ↦
-            ap (λ o. option_map_or (λ (z : ZoneRow). z.shifts) (option_and_then (λ (x : CalendarRow). find (λ (z : ZoneRow). z.id == x.zone) part.zones) o) []) e
+            ap (λ o. option_map_or (λ (z : ZoneRow). z.shifts) (option_and_then (λ (x : CalendarRow). find (λ (z : ZoneRow). z.id == x.zone) narrowed.zones) o) []) e
             ∙ sym (ap (λ o. option_map_or (λ (z : ZoneRow). z.shifts) (option_and_then (λ (x : CalendarRow). find (λ (z : ZoneRow). z.id == x.zone) t.zones) o) []) (sym row ∙ e))
         | inr (x, j, f, e) ↦
-            ap (λ o. option_map_or (λ (z : ZoneRow). z.shifts) (option_and_then (λ (x : CalendarRow). find (λ (z : ZoneRow). z.id == x.zone) part.zones) o) []) e
+            ap (λ o. option_map_or (λ (z : ZoneRow). z.shifts) (option_and_then (λ (x : CalendarRow). find (λ (z : ZoneRow). z.id == x.zone) narrowed.zones) o) []) e
             ∙ ap (λ o. option_map_or (λ (z : ZoneRow). z.shifts) o []) (zone_kept x.zone (complete.zone x j))
             ∙ sym (ap (λ o. option_map_or (λ (z : ZoneRow). z.shifts) (option_and_then (λ (x : CalendarRow). find (λ (z : ZoneRow). z.id == x.zone) t.zones) o) []) (sym row ∙ e))
       ]
 
-  calendar_kept : (c : ℕ) (at : LocalTime) → IsIn c calendars → calendar_capacity part c at ≡ calendar_capacity t c at
+  calendar_kept : (c : ℕ) (at : LocalTime) → IsIn c calendars → calendar_capacity narrowed c at ≡ calendar_capacity t c at
   unfolding calendar_capacity
   calendar_kept c at i =
       let has = any_kept (λ (d : DayRow). (d.calendar == c) && (d.day == at.day)) (λ d. is_listed calendars d.calendar) t.days (λ d e. keeps_by calendars c d.calendar i (and_left (d.calendar == c) (d.day == at.day) e)) in
@@ -210,73 +210,73 @@ module _ (t : Tables) (ids calendars zones : List ℕ) (complete : AreComplete t
           ∙ ap (λ e. cond b (option_map_or (λ (d : DayRow). d.capacity) h 0) (cond e 0 (option_map_or (λ (w : WorkRow). w.capacity) v 0))) r
           ∙ ap (λ v. cond b (option_map_or (λ (d : DayRow). d.capacity) h 0) (cond f 0 (option_map_or (λ (w : WorkRow). w.capacity) v 0))) s
 
-  calendar_of_kept : (r m : ℕ) → IsIn r ids → option_map_or (λ c. calendar_capacity part c (local_time (shifts_of part c) m)) (calendar_of part r) 0 ≡ option_map_or (λ c. calendar_capacity t c (local_time (shifts_of t c) m)) (calendar_of t r) 0
-  calendar_of_kept r m i = elim (find_cases (λ (x : ResourceRow). x.id == r) part.resources) [
-    | inl e ↦ ap (λ o. option_map_or (λ c. calendar_capacity part c (local_time (shifts_of part c) m)) (option_and_then (λ (x : ResourceRow). x.calendar) o) 0) e ∙ sym (ap (λ o. option_map_or (λ c. calendar_capacity t c (local_time (shifts_of t c) m)) (option_and_then (λ (x : ResourceRow). x.calendar) o) 0) (sym (resource_kept r i) ∙ e))
+  calendar_of_kept : (r m : ℕ) → IsIn r ids → option_map_or (λ c. calendar_capacity narrowed c (local_time (shifts_of narrowed c) m)) (calendar_of narrowed r) 0 ≡ option_map_or (λ c. calendar_capacity t c (local_time (shifts_of t c) m)) (calendar_of t r) 0
+  calendar_of_kept r m i = elim (find_cases (λ (x : ResourceRow). x.id == r) narrowed.resources) [
+    | inl e ↦ ap (λ o. option_map_or (λ c. calendar_capacity narrowed c (local_time (shifts_of narrowed c) m)) (option_and_then (λ (x : ResourceRow). x.calendar) o) 0) e ∙ sym (ap (λ o. option_map_or (λ c. calendar_capacity t c (local_time (shifts_of t c) m)) (option_and_then (λ (x : ResourceRow). x.calendar) o) 0) (sym (resource_kept r i) ∙ e))
     | inr (x, j, f, e) ↦
-        ap (λ o. option_map_or (λ c. calendar_capacity part c (local_time (shifts_of part c) m)) (option_and_then (λ (x : ResourceRow). x.calendar) o) 0) e
+        ap (λ o. option_map_or (λ c. calendar_capacity narrowed c (local_time (shifts_of narrowed c) m)) (option_and_then (λ (x : ResourceRow). x.calendar) o) 0) e
         ∙ some_kept x.calendar (λ c g. complete.calendar x c j g)
         ∙ sym (ap (λ o. option_map_or (λ c. calendar_capacity t c (local_time (shifts_of t c) m)) (option_and_then (λ (x : ResourceRow). x.calendar) o) 0) (sym (resource_kept r i) ∙ e))
   ]
     where
-      some_kept : (o : Option ℕ) → ((c : ℕ) → o ≡ Some c → IsIn c calendars) → option_map_or (λ c. calendar_capacity part c (local_time (shifts_of part c) m)) o 0 ≡ option_map_or (λ c. calendar_capacity t c (local_time (shifts_of t c) m)) o 0
+      some_kept : (o : Option ℕ) → ((c : ℕ) → o ≡ Some c → IsIn c calendars) → option_map_or (λ c. calendar_capacity narrowed c (local_time (shifts_of narrowed c) m)) o 0 ≡ option_map_or (λ c. calendar_capacity t c (local_time (shifts_of t c) m)) o 0
       some_kept None h = refl
-      some_kept (Some c) h = ap (λ s. calendar_capacity part c (local_time s m)) (shifts_kept c (h c refl)) ∙ calendar_kept c (local_time (shifts_of t c) m) (h c refl)
+      some_kept (Some c) h = ap (λ s. calendar_capacity narrowed c (local_time s m)) (shifts_kept c (h c refl)) ∙ calendar_kept c (local_time (shifts_of t c) m) (h c refl)
 
-  capacity_kept : (r m : ℕ) → IsIn r ids → capacity part r m ≡ capacity t r m
+  capacity_kept : (r m : ℕ) → IsIn r ids → capacity narrowed r m ≡ capacity t r m
   unfolding capacity
   capacity_kept r m i =
       let off = any_kept (λ (o : OffRow). (o.resource == r) && covers o.from o.to m) (λ o. is_listed ids o.resource) t.offs (λ o e. keeps_by ids r o.resource i (and_left (o.resource == r) (covers o.from o.to m) e)) in
-      ap (λ b. cond b 0 (option_map_or (λ c. calendar_capacity part c (local_time (shifts_of part c) m)) (calendar_of part r) 0)) off
+      ap (λ b. cond b 0 (option_map_or (λ c. calendar_capacity narrowed c (local_time (shifts_of narrowed c) m)) (calendar_of narrowed r) 0)) off
       ∙ ap (λ n. cond (list_any (λ (o : OffRow). (o.resource == r) && covers o.from o.to m) t.offs) 0 n) (calendar_of_kept r m i)
 
   -- ---- weights, where the bookings are on listed resources
 
-  loads_kept : (on r m : ℕ) → IsIn on ids → loads part on r m ≡ loads t on r m
+  loads_kept : (on r m : ℕ) → IsIn on ids → loads narrowed on r m ≡ loads t on r m
   loads_kept on r m i =
-      ap (λ s. (on == r) || (is_crew s && list_any (λ x. x == r) (members part on m))) (sort_kept on i)
+      ap (λ s. (on == r) || (is_crew s && list_any (λ x. x == r) (members narrowed on m))) (sort_kept on i)
       ∙ ap (λ l. (on == r) || (is_crew (sort_of t on) && list_any (λ x. x == r) l)) (members_kept on m i)
 
-  plain_kept : (r m : ℕ) (a : Ask) → IsIn a.resource ids → plain_load part r m a ≡ plain_load t r m a
+  plain_kept : (r m : ℕ) (a : Ask) → IsIn a.resource ids → plain_load narrowed r m a ≡ plain_load t r m a
   unfolding plain_load
   plain_kept r m a i = ap (λ b. cond b (effort_at m a) 0) (loads_kept a.resource r m i)
 
-  load_by_kept : (s : LoadSort) (r m : ℕ) (a : Ask) → IsIn r ids → IsIn a.resource ids → load_by s part r m a ≡ load_by s t r m a
+  load_by_kept : (s : LoadSort) (r m : ℕ) (a : Ask) → IsIn r ids → IsIn a.resource ids → load_by s narrowed r m a ≡ load_by s t r m a
   load_by_kept plain r m a i j = plain_kept r m a j
   load_by_kept crew r m a i j = refl
   load_by_kept pool r m a i j =
-      ap (λ l. own_load r m a + sum_by (λ x. plain_load part x m a) l) (members_kept r m i)
-      ∙ ap (λ n. own_load r m a + n) (sum_same (λ x. plain_load part x m a) (λ x. plain_load t x m a) (members t r m) (λ x. plain_kept x m a j))
+      ap (λ l. own_load r m a + sum_by (λ x. plain_load narrowed x m a) l) (members_kept r m i)
+      ∙ ap (λ n. own_load r m a + n) (sum_same (λ x. plain_load narrowed x m a) (λ x. plain_load t x m a) (members t r m) (λ x. plain_kept x m a j))
   load_by_kept unknown r m a i j = refl
 
-  load_kept : (r m : ℕ) (a : Ask) → IsIn r ids → IsIn a.resource ids → load part r m a ≡ load t r m a
+  load_kept : (r m : ℕ) (a : Ask) → IsIn r ids → IsIn a.resource ids → load narrowed r m a ≡ load t r m a
   unfolding load
-  load_kept r m a i j = ap (λ s. load_by s part r m a) (sort_kept r i) ∙ load_by_kept (sort_of t r) r m a i j
+  load_kept r m a i j = ap (λ s. load_by s narrowed r m a) (sort_kept r i) ∙ load_by_kept (sort_of t r) r m a i j
 
-  weight_kept : (asks : List Ask) (r m : ℕ) → IsIn r ids → ((a : Ask) → IsIn a asks → IsIn a.resource ids) → weight part asks r m ≡ weight t asks r m
+  weight_kept : (asks : List Ask) (r m : ℕ) → IsIn r ids → ((a : Ask) → IsIn a asks → IsIn a.resource ids) → weight narrowed asks r m ≡ weight t asks r m
   weight_kept [] r m i h = refl
   weight_kept (a ∷ asks) r m i h =
-      let b = sum_by-cons (load part r m) a asks in let c = sum_by-cons (load t r m) a asks in
+      let b = sum_by-cons (load narrowed r m) a asks in let c = sum_by-cons (load t r m) a asks in
       let e = load_kept r m a i (h a (inl refl)) in let k = weight_kept asks r m i (λ x j. h x (inr j)) in omega arith
 
   sum_in : (f g : ℕ → ℕ) (xs : List ℕ) → ((x : ℕ) → IsIn x xs → f x ≡ g x) → sum_by f xs ≡ sum_by g xs
   sum_in f g [] h = refl
   sum_in f g (x ∷ xs) h = let a = sum_by-cons f x xs in let b = sum_by-cons g x xs in let e = h x (inl refl) in let r = sum_in f g xs (λ y i. h y (inr i)) in omega arith
 
-  room_by_kept : (s : LoadSort) (r m : ℕ) → IsIn r ids → ((x : MemberRow) → IsIn x t.members → x.group ≡ r → IsIn x.member ids) → room_by s part r m ≡ room_by s t r m
+  room_by_kept : (s : LoadSort) (r m : ℕ) → IsIn r ids → ((x : MemberRow) → IsIn x t.members → x.group ≡ r → IsIn x.member ids) → room_by s narrowed r m ≡ room_by s t r m
   room_by_kept plain r m i h = ap Some (capacity_kept r m i)
   room_by_kept crew r m i h = ap room_of_crew (members_kept r m i)
   room_by_kept pool r m i h =
-      ap (λ l. Some (sum_by (λ x. capacity part x m) l)) (members_kept r m i)
-      ∙ ap Some (sum_in (λ x. capacity part x m) (λ x. capacity t x m) (members t r m) (λ x j.
+      ap (λ l. Some (sum_by (λ x. capacity narrowed x m) l)) (members_kept r m i)
+      ∙ ap Some (sum_in (λ x. capacity narrowed x m) (λ x. capacity t x m) (members t r m) (λ x j.
       let a = in-map (λ (y : MemberRow). y.member) x (filter (λ y. (y.group == r) && covers y.from y.to m) t.members) j in
       let b = in-filter (λ (y : MemberRow). (y.group == r) && covers y.from y.to m) a.0 t.members a.1 in
       capacity_kept x m (subst (λ n. IsIn n ids) (sym a.2) (h a.0 b.0 (same a.0.group r (and_left (a.0.group == r) (covers a.0.from a.0.to m) b.1))))))
   room_by_kept unknown r m i h = refl
 
-  room_kept : (r m : ℕ) → IsIn r ids → ((x : MemberRow) → IsIn x t.members → x.group ≡ r → IsIn x.member ids) → room part r m ≡ room t r m
+  room_kept : (r m : ℕ) → IsIn r ids → ((x : MemberRow) → IsIn x t.members → x.group ≡ r → IsIn x.member ids) → room narrowed r m ≡ room t r m
   unfolding room
-  room_kept r m i h = ap (λ s. room_by s part r m) (sort_kept r i) ∙ room_by_kept (sort_of t r) r m i h
+  room_kept r m i h = ap (λ s. room_by s narrowed r m) (sort_kept r i) ∙ room_by_kept (sort_of t r) r m i h
 
 -- ---- what the bookings can load
 

@@ -1,5 +1,5 @@
 -- Up to the next event after a minute nothing begins or ends.
-use Rattle.std.proofs.Common.{◌≡◌, ℕ, ◌+◌, ◌-◌, ◌%◌, ◌<◌, ◌≤◌, Bool, true, false, cond, ◌==◌, ℤ, List, [], ◌∷◌, Option, Some, None, ◌⊎◌, inl, inr, refl, sym, ap, ◌∙◌, subst, arith}
+use Rattle.std.proofs.Common.{◌≡◌, ℕ, ◌+◌, ◌-◌, ◌%◌, ◌<◌, ◌≤◌, Bool, true, false, cond, ◌==◌, ℤ, List, [], ◌∷◌, Option, Some, None, ◌⊎◌, inl, inr, sym, subst, arith}
 use Rattle.std.proofs.lemmas.Bool.Decides.{nat_tests}
 use Rattle.std.specs.Prelude.{fold}
 use Rattle.std.specs.Option.{option_map_or}
@@ -18,7 +18,7 @@ use Rattle.desk_base.specs.Capacity.{shifts_of}
 use Rattle.desk_base.specs.Load.{IsWithinRoom}
 use Rattle.desk_base.proofs.Members.{IsIn}
 use Rattle.desk_search.specs.Clashes.{nearer, next_start}
-use Rattle.desk_search.specs.Events.{nearer_bound, minutes_until, nearer_time, after_works, after_breaks, after_days, after_times, after_clock, after_resources, after_zones, after_members, after_offs, next_event}
+use Rattle.desk_search.specs.Events.{nearer_bound, minutes_until, nearer_time, after_works, after_breaks, after_times, after_clock, after_resources, after_zones, after_members, after_offs, next_event}
 use Rattle.desk_search.proofs.Overs.{nearer_after, nearer_below, nearer_at, nearest_is}
 use Rattle.desk_search.proofs.Steady.{IsStill, IsClockStill, AreStill, within-still}
 

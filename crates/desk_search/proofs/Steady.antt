@@ -1,6 +1,5 @@
 -- Rooms and weights between two minutes, where nothing begins or ends: capacity and weight change only at finitely many minutes.
-use Rattle.std.proofs.Common.{◌≡◌, ℕ, zero, suc, ◌+◌, ◌-◌, ◌/◌, ◌%◌, ◌<◌, ◌≤◌, Bool, true, false, cond, ◌&&◌, ◌||◌, ◌==◌, nat_le, nat_lt, ltb, ℤ, pos, negsuc, ◌+ℤ◌, List, [], ◌∷◌, map, Option, Some, None, ◌⊎◌, inl, inr, refl, sym, ap, ◌∙◌, subst, arith}
-use Rattle.std.proofs.lemmas.Bool.{false≢true}
+use Rattle.std.proofs.Common.{◌≡◌, ℕ, suc, ◌+◌, ◌-◌, ◌/◌, ◌%◌, ◌<◌, ◌≤◌, Bool, true, false, cond, ◌&&◌, ◌||◌, ◌==◌, nat_le, nat_lt, ltb, ℤ, pos, negsuc, ◌+ℤ◌, List, [], ◌∷◌, map, Option, Some, None, ◌⊎◌, inl, inr, refl, sym, ap, ◌∙◌, subst, arith}
 use Rattle.std.proofs.lemmas.Bool.Decides.{nat_tests}
 use Rattle.std.proofs.lemmas.List.Sums.{sum_by-cons}
 use Rattle.std.specs.Prelude.{IfSome, find, filter, sum_by, option_and_then}
@@ -17,8 +16,8 @@ use Rattle.desk_base.specs.declared.calendar_rows.OffRow.{OffRow}
 use Rattle.desk_base.specs.declared.resource_rows.MemberRow.{MemberRow}
 use Rattle.desk_base.specs.declared.searches.Ask.{Ask}
 use Rattle.desk_base.specs.Limits.{minutes_a_day}
-use Rattle.desk_base.specs.Time.{covers, minute_of, last_begun, offset_at, clock_minute, local_time, LocalTime, weekday_of}
-use Rattle.desk_base.specs.Capacity.{resource_of, calendar_of, shifts_of, calendar_capacity, capacity}
+use Rattle.desk_base.specs.Time.{covers, minute_of, last_begun, offset_at, clock_minute, local_time, weekday_of}
+use Rattle.desk_base.specs.Capacity.{calendar_of, shifts_of, calendar_capacity, capacity}
 use Rattle.desk_base.specs.Load.{LoadSort, plain, crew, pool, unknown, sort_of, is_crew, members, loads, effort_at, own_load, plain_load, load, load_by, weight, room, room_by, room_of_crew, IsWithinRoom}
 use Rattle.desk_base.proofs.Members.{IsIn}
 use Rattle.desk_base.proofs.Tests.{find_cases}

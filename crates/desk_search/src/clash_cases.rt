@@ -2,8 +2,8 @@
 //! from 10:00.
 use crate::clash;
 use desk_base::{
-    Ask, BookingId, BookingRow, Clash, GroupId, Kind, MemberRow, Minute, Name, OffRow, ResourceId,
-    ResourceRow, Shown, SiteId, Tables, UnitId, Window,
+    Ask, BookingId, BookingRow, Clash, GroupId, Kind, MemberRow, Minute, Name, NoMemory, OffRow,
+    ResourceId, ResourceRow, Shown, SiteId, Tables, UnitId, Window,
 };
 use std::alloc::Global;
 
@@ -56,6 +56,14 @@ fn values(clash: &Clash) -> Values {
     )
 }
 
+fn answered(found: Result<Option<Clash>, NoMemory>) -> Option<Option<Values>> {
+    match found {
+        Ok(Some(clash)) => Some(Some(values(&clash))),
+        Ok(None) => Some(None),
+        Err(NoMemory) => None,
+    }
+}
+
 /// The clash of what is asked for with standing bookings, each with its number. The outer `None` is want of memory.
 fn clash_of(
     alloc: Global,
@@ -74,10 +82,7 @@ fn clash_of(
     if bookings.len() > 100 || asks.len() > 100 || tables.members.len() > 100 {
         return None;
     }
-    match clash(alloc, tables, bookings.as_slice(), asks.as_slice()).ok()? {
-        Some(clash) => Some(Some(values(&clash))),
-        None => Some(None),
-    }
+    answered(clash(alloc, tables, bookings.as_slice(), asks.as_slice()))
 }
 
 fn add_resource(alloc: Global, tables: &mut Tables, id: u32, kind: Kind) -> Option<()> {

@@ -1,4 +1,4 @@
-use Rattle.std.proofs.Common.{◌≡◌, ◌<◌, arith, subst, ◌∙◌, sym}
+use Rattle.std.proofs.Common.{◌<◌, arith, subst, ◌∙◌, sym}
 use Rattle.desk_search.proofs.Overs.{start_after, start_below, quiet_until, none_over}
 use Rattle.desk_search.proofs.Nearest.{still_until, event_after, event_below}
 use Rattle.desk_search.proofs.clashes.next_minute.Goals as goal

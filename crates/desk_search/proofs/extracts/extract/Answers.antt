@@ -1,4 +1,4 @@
-use Rattle.std.proofs.Common.{◌≡◌, sym, ap, ◌∙◌}
+use Rattle.std.proofs.Common.{sym, ap, ◌∙◌}
 use Rattle.desk_search.specs.Extracts.{calendars_of, zones_of, calendars_among}
 use Rattle.desk_search.proofs.Picked.{extracted}
 use Rattle.desk_search.proofs.extracts.extract.Goals as goal
