@@ -4,6 +4,10 @@ pub mod Choices
 pub mod Crews
 pub mod Fitting
 pub mod Overs
+pub mod Steady
+pub mod Nearest
+pub mod Picked
+pub mod Bearing
 pub mod Tests
 pub mod Asks
 pub mod Places

@@ -1,11 +1,10 @@
 -- The least resource that has too little room, and the first minute at which there is one.
-use Rattle.std.proofs.Common.{◌≡◌, ℕ, zero, suc, ◌+◌, ◌*◌, ◌^◌, ◌<◌, ◌≤◌, Bool, true, false, cond, min, map, take, length, get_or, ◌&&◌, ◌==◌, List, [], ◌∷◌, ◌++◌, Option, Some, None, ◌⊎◌, inl, inr, refl, sym, ap, ◌∙◌, subst, arith, nat_lt}
+use Rattle.std.proofs.Common.{◌≡◌, ℕ, zero, suc, ◌+◌, ◌*◌, ◌^◌, ◌<◌, ◌≤◌, Bool, true, false, cond, min, map, take, length, get_or, ◌==◌, List, [], ◌∷◌, ◌++◌, Option, Some, None, ◌⊎◌, inl, inr, refl, sym, ap, ◌∙◌, subst, arith}
 use Rattle.std.proofs.lemmas.Bool.{false≢true}
 use Rattle.std.proofs.lemmas.Bool.Decides.{nat_tests}
 use Rattle.std.proofs.Math.Nat.{mul-le-mul_left}
 use Rattle.std.proofs.lemmas.List.{take_more}
-use Rattle.std.specs.Prelude.{IfSome, MatchOption, fold, find}
-use Rattle.std.specs.Option.{option_map_or}
+use Rattle.std.specs.Prelude.{IfSome, fold, find}
 use Rattle.desk_base.specs.declared.tables.Tables.{Tables}
 use Rattle.desk_base.specs.declared.resource_rows.ResourceRow.{ResourceRow}
 use Rattle.desk_base.specs.declared.searches.Ask.{Ask}
@@ -26,6 +25,10 @@ use Rattle.desk_search.proofs.Fitting.{within_room_decides}
 pub within_from : (t : Tables) (asks : List Ask) (m r : ℕ) → has_room_at t asks m r ≡ true → IsWithinRoom t asks r m
 unfolding has_room_at
 within_from t asks m r e = (within_room_decides (weight t asks r m) (room t r m)).0 e
+
+pub room_from : (t : Tables) (asks : List Ask) (m r : ℕ) → IsWithinRoom t asks r m → has_room_at t asks m r ≡ true
+unfolding has_room_at
+room_from t asks m r h = (within_room_decides (weight t asks r m) (room t r m)).1 h
 
 -- it is enough that the rows of the resource have room
 within_by_rows : (t : Tables) (asks : List Ask) (m r : ℕ) → ((x : ResourceRow) → IsIn x t.resources → x.id ≡ r → has_room_at t asks m x.id ≡ true) → IsWithinRoom t asks r m
@@ -118,13 +121,13 @@ lower_within t asks m r e r' low =
 
 -- ---- the next minute
 
-nearer_after : (m n k : ℕ) → m < n → m < nearer m n k
+pub nearer_after : (m n k : ℕ) → m < n → m < nearer m n k
 nearer_after m n k h = grind (arith, nat_tests)
 
-nearer_below : (m n k : ℕ) → nearer m n k ≤ n
+pub nearer_below : (m n k : ℕ) → nearer m n k ≤ n
 nearer_below m n k = grind (arith, nat_tests)
 
-nearer_at : (m n k : ℕ) → m < k → nearer m n k ≤ k
+pub nearer_at : (m n k : ℕ) → m < k → nearer m n k ≤ k
 nearer_at m n k h = grind (arith, nat_tests)
 
 -- what the nearest of some minutes after m is
@@ -161,7 +164,7 @@ quiet_within t asks r m h = within_zero (room t r m) (weight t asks r m) (weight
     within_zero None w e = tt
     within_zero (Some k) w e = omega arith
 
-not_false : (b : Bool) → (b ≡ true → ⊥) → b ≡ false
+pub not_false : (b : Bool) → (b ≡ true → ⊥) → b ≡ false
 not_false true h = absurd (h refl)
 not_false false h = refl
 

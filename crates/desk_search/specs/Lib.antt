@@ -5,3 +5,5 @@ pub mod Parts
 pub mod Tests
 pub mod Places
 pub mod Clashes
+pub mod Events
+pub mod Extracts

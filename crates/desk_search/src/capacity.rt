@@ -95,7 +95,8 @@ fn clock_minute(shifts: &[(u32, i32)], minute: u32) -> u64
     if local < 0 { 0 } else { local as u64 }
 }
 
-fn calendar_minute(tables: &Tables, calendar: CalendarId, minute: u32) -> u64
+/// What clocks of the calendar's zone show at a minute, in minutes since they showed 1970-01-01T00:00.
+pub fn calendar_minute(tables: &Tables, calendar: CalendarId, minute: u32) -> u64
     ensures value { result ≡ clock_minute (shifts_of tables.now calendar) minute }
     ensures small { result < 2 ^ 34 }
 {

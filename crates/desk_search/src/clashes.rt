@@ -8,6 +8,8 @@ ghost use Rattle.desk_base.specs.Steps.{IsConflict, shown_of};
 ghost use Rattle.desk_search.specs.Rooms.{has_room_at};
 ghost use Rattle.desk_search.specs.Clashes.{lesser, next_over, least_over, is_busy, nearer, next_start, IsFirstOver};
 
+use crate::events::{next_event, next_start};
+use crate::extracts::bearing;
 use crate::search::asks::ask_of;
 use crate::search::load::{covers, has_room_at, load, room, weight};
 use desk_base::{Ask, BookingRow, Clash, Minute, NoMemory, ResourceId, Shown, Tables};
@@ -62,37 +64,16 @@ fn is_busy(asks: &[Ask], minute: u32) -> bool
     asks.iter().any(|a| covers(a, minute))
 }
 
-fn nearer(minute: u32, near: u32, other: u32) -> u32
-    ensures { result ≡ nearer minute near other }
-{
-    if minute < other && other < near {
-        other
-    } else {
-        near
-    }
-}
-
-/// The first start of a booking after the minute, or the end of the horizon.
-fn next_start(asks: &[Ask], minute: u32) -> u32
-    ensures { result ≡ next_start asks.now minute }
-{
-    let mut near = END;
-    for ask in asks {
-        near = nearer(minute, near, ask.window.from.get());
-    }
-    near
-}
-
-/// The next minute to look at. At those that are passed over no booking weighs anything.
-#[tactic(auto, using(crate::proofs::Overs::quiet_until))]
+/// The next minute to look at, after one at which each resource has room. At those that are passed over each has room too.
 fn next_minute(tables: &Tables, asks: &[Ask], minute: u32) -> u32
-    requires { minute < end_of_minutes }
+    requires before { minute < end_of_minutes }
+    requires room { least_over tables.now asks.now minute ≡ None }
     ensures after { minute < result }
     ensures up_to { result ≤ end_of_minutes }
     ensures passed { (r k : ℕ) → minute < k → k < result → IsWithinRoom tables.now asks.now r k }
 {
     if is_busy(asks, minute) {
-        minute + 1
+        next_event(tables, asks, minute)
     } else {
         next_start(asks, minute)
     }
@@ -114,6 +95,16 @@ fn first_over(alloc: Global, tables: &Tables, asks: &[Ask]) -> Result<Option<Pla
         }
     }
     Ok(None)
+}
+
+/// The same, looked for in the rows that bear on the bookings alone.
+fn first_place(alloc: Global, tables: &Tables, asks: &[Ask]) -> Result<Option<Place>, NoMemory>
+    requires { length asks.now ≤ 2 ^ 20 }
+    ensures { IfOk result (λ p. MatchOption p (Fits tables.now asks.now) (λ p. IsFirstOver tables.now asks.now p.resource p.minute)) }
+{
+    let part = bearing(alloc, tables, asks)?;
+    let found = first_over(alloc, &part, asks)?;
+    Ok(found)
 }
 
 /// The standing bookings, as uses of their resources.
@@ -199,7 +190,7 @@ pub fn clash(
 {
     let uses = uses_of(alloc, standing)?;
     let all = together(alloc, uses.as_slice(), asked)?;
-    let Some(place) = first_over(alloc, tables, all.as_slice())? else {
+    let Some(place) = first_place(alloc, tables, all.as_slice())? else {
         return Ok(None);
     };
     Ok(Some(Clash {

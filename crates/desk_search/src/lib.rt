@@ -7,7 +7,11 @@
 #![tactic(auto)]
 
 pub mod capacity;
+#[cfg(test)]
+mod clash_cases;
 mod clashes;
+mod events;
+mod extracts;
 mod lookup;
 mod search;
 

@@ -7,8 +7,7 @@ ghost use Rattle.desk_base.specs.Rules.{first_broken};
 ghost use Rattle.desk_base.specs.Time.{is_inside, leaf_time};
 ghost use Rattle.desk_base.specs.declared.rules.LeafRule.TheVariants.{Window as Outside};
 
-use crate::lookup::resource_of;
-use crate::search::members::is_listed;
+use crate::lookup::{is_listed, resource_of};
 use desk_base::{
     GroupRow, Kind, Leaf, LeafRule, ResourceId, ResourceRow, RoleId, Tables, TerritoryId, UnitId,
 };

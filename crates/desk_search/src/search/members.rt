@@ -5,7 +5,7 @@ ghost use Rattle.desk_base.specs.Load.{sort_of, sort_of_kind, is_crew, members};
 ghost use Rattle.desk_base.specs.Time.{covers};
 ghost use Rattle.desk_search.specs.Sorts.{Names};
 
-use crate::lookup::{is_within, resource_of};
+use crate::lookup::{is_listed, is_within, resource_of};
 use desk_base::{Kind, ResourceId, Tables};
 use std::alloc::{AllocError, Global};
 
@@ -82,12 +82,6 @@ pub fn members(
         })
         .map(|x| x.member)
         .collect(alloc)
-}
-
-pub fn is_listed(list: &[ResourceId], id: ResourceId) -> bool
-    ensures { result ≡ list_any (λ x. x == id) list.now }
-{
-    list.iter().any(|x| x.get() == id.get())
 }
 
 pub fn is_member_at(

@@ -1,6 +1,5 @@
-use Rattle.std.proofs.Common.{◌≡◌, ◌++◌, map, ap, subst, ◌∙◌}
-use Rattle.desk_base.specs.declared.searches.Ask.{Ask}
-use Rattle.desk_base.specs.Load.{ask_of, weight}
+use Rattle.std.proofs.Common.{◌++◌, ap, subst, ◌∙◌}
+use Rattle.desk_base.specs.Load.{weight}
 use Rattle.desk_search.specs.Clashes.{IsFirstOver}
 use Rattle.desk_search.proofs.Overs.{clash_is}
 use Rattle.desk_search.proofs.clashes.clash.Goals as goal

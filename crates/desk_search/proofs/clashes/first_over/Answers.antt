@@ -1,5 +1,4 @@
-use Rattle.std.proofs.Common.{◌≡◌, sym, ap, subst, ◌∙◌, arith}
-use Rattle.desk_base.specs.Limits.{end_of_minutes, first_minute}
+use Rattle.std.proofs.Common.{◌≡◌, sym, subst, ◌∙◌, arith}
 use Rattle.desk_search.specs.Clashes.{IsFirstOver}
 use Rattle.desk_search.proofs.Overs.{first_is, within_more}
 use Rattle.desk_search.proofs.clashes.first_over.Goals as goal

@@ -1,4 +1,4 @@
-use Rattle.std.proofs.Common.{◌≡◌, ◌<◌, true, false, length, sym, ap, ◌∙◌, arith, option_map, Some}
+use Rattle.std.proofs.Common.{◌<◌, length, sym, ap, ◌∙◌, arith, option_map}
 use Rattle.std.specs.Option.{option_map_or}
 use Rattle.desk_base.specs.declared.booking_rows.BookingRow.{BookingRow}
 use Rattle.desk_base.specs.declared.refusals.Shown.TheVariants.{Booking, Gap}

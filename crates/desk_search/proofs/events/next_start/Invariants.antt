@@ -3,7 +3,7 @@ use Rattle.std.specs.List.{fold}
 use Rattle.desk_base.specs.declared.searches.Ask.{Ask}
 use Rattle.desk_base.specs.Limits.{end_of_minutes}
 use Rattle.desk_search.specs.Clashes.{nearer}
-use Rattle.desk_search.proofs.clashes.next_start.Given as goal
+use Rattle.desk_search.proofs.events.next_start.Given as goal
 
 abbrev pub invariant-loop-ask : goal.invariant-loop-ask
 invariant-loop-ask l = l.near ≡ fold (λ n (a : Ask). nearer l.minute n a.window.from) end_of_minutes (take l.ask-index l.asks)
