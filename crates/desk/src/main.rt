@@ -1,5 +1,6 @@
 //! The program `desk`: its words, its standard input and its standard output, handed to the top call.
 #![tactic(auto)]
+
 ghost use Rattle.std.specs.Prelude.{◌≡◌, ◌≢◌, [], map, drop, IfOk, IfErr, IsErr, IsOkAnd, string_bytes};
 ghost use Rattle.std.specs.Vec.Iter.{into_iter_items};
 ghost use Rattle.std.specs.IoError.{error_kind};

@@ -3,9 +3,9 @@ ghost use Rattle.std.specs.Prelude.{◌≡◌, ◌++◌, map, IfOk, OnOk};
 ghost use Rattle.serde_json.specs.View.{view};
 ghost use Rattle.desk_batch.specs.Answers.{table_name, field_name, key_data, pick_data, row_data, rows_data, next_data, page_object, page_data, reply_data, unknown_data, bad_field_data, moved_data, refusal_data, error_data, answer_data, answer_text};
 
+use crate::asked::{Answer, Outcome, Refusal, Reply};
 use crate::cursors::position_text;
 use crate::moments::moment_text;
-use crate::asked::{Answer, Outcome, Refusal, Reply};
 use desk_base::{Field, Found, Key, NoMemory, Page, Position, ResourceId, Table};
 use desk_io::Bytes;
 use serde_json::{Value, json, push};

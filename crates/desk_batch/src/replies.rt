@@ -3,8 +3,8 @@ ghost use Rattle.std.specs.Prelude.{◌≡◌, IfOk};
 ghost use Rattle.desk_batch.specs.Replies.{json_response, refusal_status, outcome_status, answer_response, web_status, web_text, refusal_response};
 
 use crate::answers::answer_text;
-use crate::requests::WebRefusal;
 use crate::asked::{Answer, Outcome, Refusal};
+use crate::requests::WebRefusal;
 use desk_base::NoMemory;
 use desk_io::Bytes;
 use desk_wire::{BodyKind, Request, Response};

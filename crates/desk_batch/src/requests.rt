@@ -5,10 +5,10 @@ ghost use Rattle.desk_batch.specs.Decimals.{IsId};
 ghost use Rattle.desk_batch.specs.Requesting.{default_limit, rows_target, Reads};
 ghost use Rattle.desk_batch.specs.RequestReading.{Finds, IsQueryIn, IsQueryOf};
 
+use crate::asked::{Command, Query};
 use crate::decimals::read_id;
 use crate::paging::{Asked, read_query};
 use crate::pieces::pieces_of;
-use crate::asked::{Command, Query};
 use desk_base::{GroupId, NoMemory};
 use desk_wire::Request;
 use std::alloc::Global;

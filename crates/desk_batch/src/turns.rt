@@ -10,11 +10,11 @@ ghost use Rattle.desk_batch.specs.Exchanges.{Exchanged, IsStopped};
 ghost use Rattle.desk_batch.specs.Steps.{IsAnswer};
 ghost use Rattle.desk_batch.specs.Replies.{answer_response, refusal_response};
 
+use crate::asked::{Answer, Command};
 use crate::conversation::{Replier, Stop};
 use crate::replies::{answer_response, refusal_response};
 use crate::requests::{Routed, WebRefusal, read_request};
 use crate::step::step;
-use crate::asked::{Answer, Command};
 use desk_base::Tables;
 use desk_wire::{Request, Response};
 use std::alloc::Global;

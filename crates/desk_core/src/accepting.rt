@@ -48,12 +48,7 @@ fn caller_row(tables: &Tables, call: &Call, act: &Act) -> AnyRow
     })
 }
 
-fn puts_of(
-    alloc: Global,
-    tables: &Tables,
-    call: &Call,
-    act: &Act,
-) -> Result<AnyRows, NoMemory>
+fn puts_of(alloc: Global, tables: &Tables, call: &Call, act: &Act) -> Result<AnyRows, NoMemory>
     requires { IsServed act.now }
     ensures { IfOk result (λ puts. puts ≡ put_by tables.now act.now ++ caller_row tables.now call.now act.now ∷ []) }
 {

@@ -93,14 +93,7 @@ fn page_of(
     requires limit { refused_limit limit ≡ None }
     ensures { IsPageOrNone tables.now group.now options.now (place_of after.now) limit result }
 {
-    match page(
-        alloc,
-        tables,
-        group,
-        options,
-        place_of(after),
-        limit as u16,
-    ) {
+    match page(alloc, tables, group, options, place_of(after), limit as u16) {
         Ok(page) => Outcome::Done(Reply::Rows(page)),
         Err(_) => Outcome::NoMemory,
     }

@@ -10,7 +10,12 @@ use desk_base::{Act, Call, Entry, Tables};
 use std::alloc::Global;
 
 /// The tables after a served change, or the tables as they were for want of memory.
-pub(crate) fn changed(alloc: Global, tables: Tables, call: &Call, act: &Act) -> Result<Tables, Tables>
+pub(crate) fn changed(
+    alloc: Global,
+    tables: Tables,
+    call: &Call,
+    act: &Act,
+) -> Result<Tables, Tables>
     requires sound { IsSound tables }
     requires served { IsServed act.now }
     ensures after { IfOk result (λ t. t ≡ after_act tables call.now act.now) }

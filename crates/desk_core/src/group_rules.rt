@@ -13,10 +13,12 @@ const WINDOW_LIMIT: u32 = 129_600;
 
 /// Minutes of a group's step.
 const LEAST_STEP: u64 = 5;
+
 const GREATEST_STEP: u64 = 1440;
 
 /// Minutes and effort of a leaf, at most.
 const DURATION_LIMIT: u64 = 20_160;
+
 const EFFORT_LIMIT: u64 = 1000;
 
 /// The first field rule that a leaf breaks which makes no further demand.

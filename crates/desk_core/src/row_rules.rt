@@ -5,9 +5,7 @@ ghost use Rattle.desk_base.specs.Limits.{end_of_minutes, minutes_a_day};
 ghost use Rattle.desk_base.specs.Rules.{first_broken};
 ghost use Rattle.desk_base.specs.Fields.{is_within_range, is_name, overlaps, are_rising, begins_at, are_shifts, is_part_of_day, keeps_kind, zone_rules, calendar_rules, work_rules, named_rules, resource_rules};
 
-use desk_base::{
-    CalendarRow, Field, Name, NamedRow, ResourceRow, Tables, WorkRow, ZoneRow,
-};
+use desk_base::{CalendarRow, Field, Name, NamedRow, ResourceRow, Tables, WorkRow, ZoneRow};
 
 /// Bytes of a name, at most.
 const NAME_LIMIT: u64 = 60;
@@ -17,10 +15,13 @@ const SHIFT_LIMIT: usize = 256;
 
 /// 2000-01-01T00:00Z and 2100-01-01T00:00Z, in minutes.
 const FIRST_MINUTE: u32 = 15_778_080;
+
 const END_OF_MINUTES: u32 = 68_374_080;
 
 const MINUTES_A_DAY: u16 = 1440;
+
 const CAPACITY_LIMIT: u16 = 1000;
+
 const ID_LIMIT: u64 = 999_999_999;
 
 pub(crate) fn is_within_range(low: u64, high: u64, number: u64) -> bool

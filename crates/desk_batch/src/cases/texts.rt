@@ -1,12 +1,14 @@
 //! Texts byte for byte, and each public call once.
 use crate::answers::answer_text;
+use crate::asked::{Answer, Command, Outcome, Query, Refusal, Reply};
 use crate::cursor_reading::{CursorError, read_cursor};
 use crate::cursors::cursor_text;
 use crate::moments::moment_text;
 use crate::replies::{answer_response, refusal_response};
 use crate::requests::{Routed, WebRefusal, read_request};
-use crate::asked::{Answer, Command, Outcome, Query, Refusal, Reply};
-use desk_base::{Cursor, Field, Found, Items, Key, Minute, Page, Picks, Position, ResourceId, Table};
+use desk_base::{
+    Cursor, Field, Found, Items, Key, Minute, Page, Picks, Position, ResourceId, Table,
+};
 use desk_io::Bytes;
 use desk_wire::Request;
 use std::alloc::Global;
