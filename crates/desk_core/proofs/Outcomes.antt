@@ -1,5 +1,7 @@
 -- What comes of a served change: its outcome, and what the book keeps.
 use Rattle.std.proofs.Common.{◌≡◌, ℕ, true, List, [], ◌∷◌, ◌++◌, map, Option, Some, None, inl, inr, refl, sym, ap, ◌∙◌, subst}
+use Rattle.std.specs.Prelude.{Result, Ok, Err, IfOk, OnOk, OnErr}
+use Rattle.desk_base.specs.declared.memory.NoMemory.{NoMemory}
 use Rattle.desk_base.specs.declared.tables.Tables.{Tables}
 use Rattle.desk_base.specs.declared.tables.AnyRow.{AnyRow}
 use Rattle.desk_base.specs.declared.tables.AnyRow.TheVariants.{Zone, Calendar, Work, Break, Day, Off, Unit, Site, Role, Characteristic, Territory, Resource, HasRole, HasCharacteristic, HasTerritory, Member, Group, Booking, Caller}
@@ -11,6 +13,8 @@ use Rattle.desk_base.specs.declared.changes.Act.TheVariants as act
 use Rattle.desk_base.specs.declared.changes.Call.{Call}
 use Rattle.desk_base.specs.declared.changes.Entry.{Entry}
 use Rattle.desk_base.specs.declared.refusals.Refusal.{Refusal}
+use Rattle.desk_base.specs.declared.answers.Query.{Query}
+use Rattle.desk_base.specs.declared.answers.Outcome.{Outcome}
 use Rattle.desk_base.specs.declared.answers.Command.TheVariants as command
 use Rattle.desk_base.specs.declared.answers.Outcome.TheVariants as outcome
 use Rattle.desk_base.specs.declared.answers.Reply.TheVariants as reply
@@ -19,12 +23,14 @@ use Rattle.desk_base.specs.Sound.{IsSound}
 use Rattle.desk_base.specs.Acts.{after_act, receipt_of}
 use Rattle.desk_base.specs.Changes.{with_change}
 use Rattle.desk_base.specs.Refusing.{early_refusal}
-use Rattle.desk_base.specs.Steps.{IsAccepted, IsChanged, IsEntered, IsTurn, kept_receipt, entry_of}
+use Rattle.desk_base.specs.Steps.{IsAccepted, IsChanged, IsTurn, kept_receipt, entry_of}
 use Rattle.desk_base.proofs.TrialSound.{Fits-none}
 use Rattle.desk_base.proofs.AcceptedPuts.{is_put_row, accepted_put, accepted_put_group, sound_put, sound_put_group}
 use Rattle.desk_base.proofs.Journals.{legal_entry}
 use Rattle.desk_core.specs.Books.{IsKept}
+use Rattle.desk_core.specs.Answering.{IsAnswerOrNone}
 use Rattle.desk_core.specs.Built.{CanBePut, IsServed}
+use Rattle.desk_core.specs.Entered.{entered_outcome}
 
 -- ---- rows that can be put
 
@@ -79,11 +85,19 @@ module _ (opened t : Tables) (journal : List Entry) (pass : ℕ) (call : Call) (
       let l = legal_entry opened t journal pass call a kept.after kept.legal fresh (accepted a s e) in
       record { sound = sound_after a s e; legal = l.1; after = l.0; unbooked = unbooked_after a s }
 
-  -- and the outcome is the receipt
-  pub entered_turn : (a : Act) (receipt : Receipt) (t' : Tables) (journal' : List Entry) → IsServed a → early_refusal t journal call a ≡ None → receipt ≡ receipt_of t a → IsEntered t journal pass call a t' journal'
-      → IsTurn t journal pass (command.Change call a) (outcome.Done (reply.Change receipt)) t' journal'
-  entered_turn a receipt t' journal' s e r h =
-      inl (subst (λ k. IsChanged t journal pass call a k (outcome.Done (reply.Change receipt)) t' journal') (sym fresh) (accepted a s e, r, h))
+  -- after the entering, whatever came of it, the book keeps what it keeps
+  pub kept_by : (a : Act) (r : Result Receipt NoMemory) (t' : Tables) (journal' : List Entry) → IsServed a → early_refusal t journal call a ≡ None
+      → OnOk r (t' ≡ after_act t call a) → OnOk r (journal' ≡ journal ++ entry_of t pass call a ∷ []) → OnErr r (t' ≡ t) → OnErr r (journal' ≡ journal) → IsKept opened t' journal'
+  kept_by a (Ok receipt) t' journal' s e h k m n = subst (λ (u : Tables). IsKept opened u journal') (sym h) (subst (λ (j : List Entry). IsKept opened (after_act t call a) j) (sym k) (kept_entered a s e))
+  kept_by a (Err x) t' journal' s e h k m n = subst (λ (u : Tables). IsKept opened u journal') (sym m) (subst (λ (j : List Entry). IsKept opened t j) (sym n) kept)
+
+  -- and the outcome is that of a turn
+  pub turn_by : (a : Act) (r : Result Receipt NoMemory) (t' : Tables) (journal' : List Entry) → IsServed a → early_refusal t journal call a ≡ None → IfOk r (λ receipt. receipt ≡ receipt_of t a)
+      → OnOk r (t' ≡ after_act t call a) → OnOk r (journal' ≡ journal ++ entry_of t pass call a ∷ []) → OnErr r (t' ≡ t) → OnErr r (journal' ≡ journal)
+      → IsTurn t journal pass (command.Change call a) (entered_outcome r) t' journal'
+  turn_by a (Ok receipt) t' journal' s e p h k m n =
+      inl (subst (λ o. IsChanged t journal pass call a o (outcome.Done (reply.Change receipt)) t' journal') (sym fresh) (accepted a s e, p, (h, k)))
+  turn_by a (Err x) t' journal' s e p h k m n = inr (refl, (m, n))
 
 -- ---- a change that is repeated or refused
 
@@ -93,5 +107,8 @@ repeated_turn t journal pass call a receipt e = inl (subst (λ k. IsChanged t jo
 pub refused_turn : (t : Tables) (journal : List Entry) (pass : ℕ) (call : Call) (a : Act) (why : Refusal) → None ≡ kept_receipt t call → Some why ≡ early_refusal t journal call a → IsTurn t journal pass (command.Change call a) (outcome.Refused why) t journal
 refused_turn t journal pass call a why n e = inl (subst (λ k. IsChanged t journal pass call a k (outcome.Refused why) t journal) n (inl (sym e), (refl, refl)))
 
-pub unchanged_turn : (t : Tables) (journal : List Entry) (pass : ℕ) (call : Call) (a : Act) → IsTurn t journal pass (command.Change call a) outcome.NoMemory t journal
-unchanged_turn t journal pass call a = inr (refl, (refl, refl))
+-- ---- questions
+
+pub asked_turn : (t : Tables) (journal : List Entry) (pass : ℕ) (q : Query) (out : Outcome) → IsAnswerOrNone t q out → IsTurn t journal pass (command.Ask q) out t journal
+asked_turn t journal pass q out (inl h) = inl (h, (refl, refl))
+asked_turn t journal pass q out (inr e) = inr (e, (refl, refl))

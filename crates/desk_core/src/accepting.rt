@@ -13,11 +13,10 @@ use desk_base::{
 use std::alloc::Global;
 
 /// What a served act gives.
-pub(crate) fn receipt_of(tables: &Tables, act: &Act) -> Receipt
+pub(crate) fn receipt_of(act: &Act) -> Receipt
     requires { IsServed act.now }
-    ensures { result ≡ receipt_of tables.now act.now }
+    ensures { (t : Tables) → receipt_of t act.now ≡ result }
 {
-    let _ = tables;
     match act {
         Act::Put(_) => Receipt::Put,
         Act::PutGroup(_) => Receipt::Put,
@@ -37,14 +36,14 @@ fn row_of(alloc: Global, act: &Act) -> Result<AnyRow, NoMemory>
     }
 }
 
-fn caller_row(tables: &Tables, call: &Call, act: &Act) -> AnyRow
+fn caller_row(call: &Call, act: &Act) -> AnyRow
     requires { IsServed act.now }
-    ensures { result ≡ caller_row tables.now call.now act.now }
+    ensures { (t : Tables) → caller_row t call.now act.now ≡ result }
 {
     AnyRow::Caller(CallerRow {
         caller: call.caller,
         last: call.number,
-        receipt: receipt_of(tables, act),
+        receipt: receipt_of(act),
     })
 }
 
@@ -54,7 +53,7 @@ fn puts_of(alloc: Global, tables: &Tables, call: &Call, act: &Act) -> Result<Any
 {
     let mut puts = Items::new(alloc);
     puts.push(row_of(alloc, act)?)?;
-    puts.push(caller_row(tables, call, act))?;
+    puts.push(caller_row(call, act))?;
     Ok(puts)
 }
 
@@ -94,6 +93,6 @@ pub(crate) fn entry_of(
         pass,
         call: *call,
         act: act.copy(alloc)?,
-        receipt: receipt_of(tables, act),
+        receipt: receipt_of(act),
     })
 }

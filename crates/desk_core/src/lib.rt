@@ -5,6 +5,8 @@ mod accepting;
 mod answering;
 mod book;
 mod callers;
+#[cfg(test)]
+mod cases;
 mod early;
 mod entering;
 mod group_rules;
