@@ -1,18 +1,63 @@
 //! Commands through `step`, one after another, and what they come to.
 ghost use Rattle.std.specs.Prelude.{◌≡◌, [], IfOk};
 ghost use Rattle.desk_base.specs.Sound.{IsSound};
-ghost use Rattle.desk_core.specs.Built.{CanBePut, HasPlainLeaf};
+ghost use Rattle.desk_core.specs.Built.{CanBePut};
 
 use crate::Book;
 use desk_base::laws::trial_is_sound;
 use desk_base::{
-    Act, AnyRow, CalendarId, Call, CallNumber, CallerId, Command, Field, GroupId, GroupRow, Items,
-    Kind, Leaf, Minute, Name, NamedRow, NoMemory, Node, NodeKind, Options, Outcome, Query, Receipt,
-    Refusal, Reply, ResourceId, ResourceRow, Same, SiteId, Table, Tables, UnitId, WorkRow, ZoneId,
-    ZoneRow,
+    Act, AnyRow, CalendarId, Call, CallNumber, CallerId, Command, Field, GroupId, Items, Kind,
+    Minute, Name, NamedRow, NoMemory, Options, Outcome, Page, Query, Receipt, Refusal, Reply,
+    ResourceId, ResourceRow, SiteId, Table, Tables, UnitId, WorkRow, ZoneId, ZoneRow,
 };
 use std::alloc::Global;
+use std::process::Abort;
 use std::test::Fail;
+
+/// What a command came to, as far as these cases look.
+#[derive(Clone, Copy, Debug, PartialEq, Eq)]
+enum Told {
+    Put,
+    Repeated,
+    Old(u32),
+    Skipped(u32),
+    Unknown(Table, u32),
+    Bad(Field),
+    Full(Table),
+    EmptyPage,
+    Revision,
+    Other,
+}
+
+fn told_of_refusal(refusal: &Refusal) -> Told {
+    match refusal {
+        Refusal::OldNumber(last) => Told::Old(*last),
+        Refusal::SkippedNumber(last) => Told::Skipped(*last),
+        Refusal::UnknownId(key) => Told::Unknown(key.table, key.a),
+        Refusal::BadField(field) => Told::Bad(*field),
+        Refusal::Full(table) => Told::Full(*table),
+        _ => Told::Other,
+    }
+}
+
+fn told_of_page(page: &Page) -> Told {
+    if page.rows.is_empty() && page.next.is_none() && page.end {
+        Told::EmptyPage
+    } else {
+        Told::Other
+    }
+}
+
+fn what_came_of(outcome: Outcome) -> Told {
+    match &outcome {
+        Outcome::Done(Reply::Change(Receipt::Put)) => Told::Put,
+        Outcome::Done(Reply::Rows(page)) => told_of_page(page),
+        Outcome::Done(Reply::Revision) => Told::Revision,
+        Outcome::Repeated(Receipt::Put) => Told::Repeated,
+        Outcome::Refused(refusal) => told_of_refusal(refusal),
+        _ => Told::Other,
+    }
+}
 
 fn trial(alloc: Global) -> Result<Tables, NoMemory>
     ensures sound { IfOk result IsSound }
@@ -30,98 +75,99 @@ fn call(caller: u32, number: u32) -> Result<Call, Fail> {
     })
 }
 
-fn put(alloc: Global, book: &mut Book, by: Call, row: AnyRow) -> Outcome
+fn put(alloc: Global, book: &mut Book, by: Call, row: AnyRow) -> Told
     requires { CanBePut row }
 {
     let command = Command::Change(by, Act::Put(row));
-    book.step(alloc, 3, &command).outcome
+    what_came_of(book.step(alloc, 3, &command).outcome)
 }
 
-fn put_group(alloc: Global, book: &mut Book, by: Call, group: GroupRow) -> Outcome
-    requires { HasPlainLeaf group }
-{
-    let command = Command::Change(by, Act::PutGroup(group));
-    book.step(alloc, 3, &command).outcome
+fn put_unit(alloc: Global, book: &mut Book, by: Call, id: u32, text: &str) -> Result<Told, Fail> {
+    let name = Name::of(alloc, text)?;
+    Ok(put(alloc, book, by, AnyRow::Unit(NamedRow { id, name })))
 }
 
-fn is_put(outcome: &Outcome) -> bool {
-    matches!(outcome, Outcome::Done(Reply::Change(Receipt::Put)))
+fn put_zone(
+    alloc: Global,
+    book: &mut Book,
+    by: Call,
+    id: u32,
+    shifts: &[(u32, i32)],
+) -> Result<Told, Fail> {
+    let id = ZoneId::of(id).ok_or("no zone")?;
+    let shifts = Items::from_slice(alloc, shifts)?;
+    let name = Name::of(alloc, "Z")?;
+    Ok(put(alloc, book, by, AnyRow::Zone(ZoneRow { id, name, shifts })))
 }
 
-fn is_repeated(outcome: &Outcome) -> bool {
-    matches!(outcome, Outcome::Repeated(Receipt::Put))
-}
-
-fn is_bad(outcome: &Outcome, field: Field) -> bool {
-    match outcome {
-        Outcome::Refused(Refusal::BadField(bad)) => *bad == field,
-        _ => false,
-    }
-}
-
-fn unit(alloc: Global, id: u32, text: &str) -> Result<NamedRow, Fail> {
-    Ok(NamedRow {
-        id,
-        name: Name::of(alloc, text)?,
-    })
-}
-
-fn zone(alloc: Global, id: u32, shifts: &[(u32, i32)]) -> Result<ZoneRow, Fail> {
-    Ok(ZoneRow {
-        id: ZoneId::of(id).ok_or("no zone")?,
-        name: Name::of(alloc, "Z")?,
-        shifts: Items::from_slice(alloc, shifts)?,
-    })
-}
-
-fn work(from: u16, to: u16, capacity: u16) -> Result<WorkRow, Fail> {
-    Ok(WorkRow {
-        calendar: CalendarId::of(1).ok_or("no calendar")?,
+fn put_work(
+    alloc: Global,
+    book: &mut Book,
+    by: Call,
+    from: u16,
+    to: u16,
+    capacity: u16,
+) -> Result<Told, Fail> {
+    let calendar = CalendarId::of(1).ok_or("no calendar")?;
+    let row = WorkRow {
+        calendar,
         weekday: 0,
         from,
         to,
         capacity,
-    })
+    };
+    Ok(put(alloc, book, by, AnyRow::Work(row)))
+}
+
+/// Lets a book go.
+fn discard(book: Book) {
+    let _ = book;
+}
+
+fn numbers(rt: &impl Abort, alloc: Global, book: &mut Book) -> Result<(), Fail> {
+    for number in 1..4 {
+        let told = put_unit(alloc, book, call(7, number)?, number + 1, "North")?;
+        assert_eq!(rt; told, Told::Put);
+    }
+    let again = put_unit(alloc, book, call(7, 3)?, 9, "")?;
+    assert_eq!(rt; again, Told::Repeated);
+    let old = put_unit(alloc, book, call(7, 2)?, 9, "N")?;
+    assert_eq!(rt; old, Told::Old(3));
+    let skipped = put_unit(alloc, book, call(7, 5)?, 9, "N")?;
+    assert_eq!(rt; skipped, Told::Skipped(3));
+    let second = put_unit(alloc, book, call(8, 1)?, 2, "South")?;
+    assert_eq!(rt; second, Told::Put);
+    assert_eq!(rt; book.tables().revision, 4);
+    assert_eq!(rt; book.tables().units.len(), 4);
+    assert_eq!(rt; book.journal().len(), 4);
+    Ok(())
 }
 
 #[test]
 fn a_number_acts_once(rt: HostRuntime) -> Result<(), Fail> {
     let alloc = rt.alloc();
-    let mut book = Book::over(alloc, trial(alloc)?);
-    for number in 1..4 {
-        let row = unit(alloc, number + 1, "North")?;
-        let outcome = put(alloc, &mut book, call(7, number)?, AnyRow::Unit(row));
-        assert!(rt; is_put(&outcome));
-    }
-    let other = unit(alloc, 9, "")?;
-    let again = put(alloc, &mut book, call(7, 3)?, AnyRow::Unit(other));
-    assert!(rt; is_repeated(&again));
-    let old = put(
-        alloc,
-        &mut book,
-        call(7, 2)?,
-        AnyRow::Unit(unit(alloc, 9, "N")?),
-    );
-    assert!(rt; matches!(old, Outcome::Refused(Refusal::OldNumber(3))));
-    let skipped = put(
-        alloc,
-        &mut book,
-        call(7, 5)?,
-        AnyRow::Unit(unit(alloc, 9, "N")?),
-    );
-    assert!(rt; matches!(skipped, Outcome::Refused(Refusal::SkippedNumber(3))));
-    let second = put(
-        alloc,
-        &mut book,
-        call(8, 1)?,
-        AnyRow::Unit(unit(alloc, 2, "South")?),
-    );
-    assert!(rt; is_put(&second));
-    assert_eq!(rt; book.tables().revision, 4);
-    assert_eq!(rt; book.tables().units.len(), 4);
-    assert_eq!(rt; book.journal().len(), 4);
-    assert_eq!(rt; book.journal()[3].pass, 3);
     assert!(rt; CallNumber::of(0).is_none());
+    let mut book = Book::over(alloc, trial(alloc)?);
+    let done = numbers(&rt, alloc, &mut book);
+    discard(book);
+    done
+}
+
+fn zones(rt: &impl Abort, alloc: Global, book: &mut Book) -> Result<(), Fail> {
+    let bare = put_zone(alloc, book, call(7, 1)?, 2, &[])?;
+    assert_eq!(rt; bare, Told::Bad(Field::Shifts));
+    let late = put_zone(alloc, book, call(7, 1)?, 2, &[(15_778_081, 0)])?;
+    assert_eq!(rt; late, Told::Bad(Field::Shifts));
+    for number in 1..64 {
+        let shifts = [(15_778_080, 0)];
+        let told = put_zone(alloc, book, call(7, number)?, number + 1, &shifts)?;
+        assert_eq!(rt; told, Told::Put);
+    }
+    let more = put_zone(alloc, book, call(7, 64)?, 65, &[(15_778_080, 0)])?;
+    assert_eq!(rt; more, Told::Full(Table::Zone));
+    let own = put_zone(alloc, book, call(7, 64)?, 64, &[(15_778_080, 60)])?;
+    assert_eq!(rt; own, Told::Put);
+    assert_eq!(rt; book.tables().zones.len(), 64);
     Ok(())
 }
 
@@ -129,28 +175,20 @@ fn a_number_acts_once(rt: HostRuntime) -> Result<(), Fail> {
 fn zones_begin_with_the_horizon(rt: HostRuntime) -> Result<(), Fail> {
     let alloc = rt.alloc();
     let mut book = Book::over(alloc, trial(alloc)?);
-    let bare = put(
-        alloc,
-        &mut book,
-        call(7, 1)?,
-        AnyRow::Zone(zone(alloc, 2, &[])?),
-    );
-    assert!(rt; is_bad(&bare, Field::Shifts));
-    let late = zone(alloc, 2, &[(15_778_081, 0)])?;
-    let late = put(alloc, &mut book, call(7, 1)?, AnyRow::Zone(late));
-    assert!(rt; is_bad(&late, Field::Shifts));
-    for number in 1..64 {
-        let row = zone(alloc, number + 1, &[(15_778_080, 0)])?;
-        let outcome = put(alloc, &mut book, call(7, number)?, AnyRow::Zone(row));
-        assert!(rt; is_put(&outcome));
+    let done = zones(&rt, alloc, &mut book);
+    discard(book);
+    done
+}
+
+fn names(rt: &impl Abort, alloc: Global, book: &mut Book) -> Result<(), Fail> {
+    let sixty = "012345678901234567890123456789012345678901234567890123456789";
+    let more = "0123456789012345678901234567890123456789012345678901234567890";
+    for text in ["", more, "a\tb"] {
+        let told = put_unit(alloc, book, call(7, 1)?, 2, text)?;
+        assert_eq!(rt; told, Told::Bad(Field::Name));
     }
-    let more = zone(alloc, 65, &[(15_778_080, 0)])?;
-    let more = put(alloc, &mut book, call(7, 64)?, AnyRow::Zone(more));
-    assert!(rt; matches!(more, Outcome::Refused(Refusal::Full(Table::Zone))));
-    let own = zone(alloc, 64, &[(15_778_080, 60)])?;
-    let own = put(alloc, &mut book, call(7, 64)?, AnyRow::Zone(own));
-    assert!(rt; is_put(&own));
-    assert_eq!(rt; book.tables().zones.len(), 64);
+    let told = put_unit(alloc, book, call(7, 1)?, 2, sixty)?;
+    assert_eq!(rt; told, Told::Put);
     Ok(())
 }
 
@@ -158,16 +196,25 @@ fn zones_begin_with_the_horizon(rt: HostRuntime) -> Result<(), Fail> {
 fn names_have_1_to_60_bytes(rt: HostRuntime) -> Result<(), Fail> {
     let alloc = rt.alloc();
     let mut book = Book::over(alloc, trial(alloc)?);
-    let sixty = "012345678901234567890123456789012345678901234567890123456789";
-    let more = "0123456789012345678901234567890123456789012345678901234567890";
-    for text in ["", more, "a\tb"] {
-        let row = unit(alloc, 2, text)?;
-        let outcome = put(alloc, &mut book, call(7, 1)?, AnyRow::Site(row));
-        assert!(rt; is_bad(&outcome, Field::Name));
+    let done = names(&rt, alloc, &mut book);
+    discard(book);
+    done
+}
+
+fn works(rt: &impl Abort, alloc: Global, book: &mut Book) -> Result<(), Fail> {
+    let cases = [
+        (720, 720, 1, Told::Bad(Field::To)),
+        (800, 720, 1, Told::Bad(Field::To)),
+        (720, 800, 0, Told::Bad(Field::Capacity)),
+        (720, 800, 1001, Told::Bad(Field::Capacity)),
+        (700, 800, 1, Told::Bad(Field::Overlap)),
+        (480, 700, 2, Told::Put),
+    ];
+    for (from, to, capacity, want) in cases {
+        let told = put_work(alloc, book, call(7, 1)?, from, to, capacity)?;
+        assert_eq!(rt; told, want);
     }
-    let row = unit(alloc, 2, sixty)?;
-    let outcome = put(alloc, &mut book, call(7, 1)?, AnyRow::Site(row));
-    assert!(rt; is_put(&outcome));
+    assert_eq!(rt; book.tables().works.len(), 2);
     Ok(())
 }
 
@@ -175,120 +222,62 @@ fn names_have_1_to_60_bytes(rt: HostRuntime) -> Result<(), Fail> {
 fn work_rows_do_not_meet(rt: HostRuntime) -> Result<(), Fail> {
     let alloc = rt.alloc();
     let mut book = Book::over(alloc, trial(alloc)?);
-    let cases = [
-        (720, 720, 1, Field::To),
-        (800, 720, 1, Field::To),
-        (720, 800, 0, Field::Capacity),
-        (720, 800, 1001, Field::Capacity),
-        (700, 800, 1, Field::Overlap),
-    ];
-    for (from, to, capacity, field) in cases {
-        let row = work(from, to, capacity)?;
-        let outcome = put(alloc, &mut book, call(7, 1)?, AnyRow::Work(row));
-        assert!(rt; is_bad(&outcome, field));
-    }
-    let own = put(
-        alloc,
-        &mut book,
-        call(7, 1)?,
-        AnyRow::Work(work(480, 700, 2)?),
-    );
-    assert!(rt; is_put(&own));
-    assert_eq!(rt; book.tables().works.len(), 2);
-    Ok(())
+    let done = works(&rt, alloc, &mut book);
+    discard(book);
+    done
+}
+
+fn put_resource_of_unit_9(alloc: Global, book: &mut Book) -> Result<Told, Fail> {
+    let id = ResourceId::of(4).ok_or("no resource")?;
+    let unit = UnitId::of(9).ok_or("no unit")?;
+    let site = SiteId::of(1).ok_or("no site")?;
+    let by = call(7, 1)?;
+    let row = ResourceRow {
+        id,
+        name: Name::of(alloc, "")?,
+        kind: Kind::Generic,
+        calendar: None,
+        unit,
+        site,
+    };
+    Ok(put(alloc, book, by, AnyRow::Resource(row)))
 }
 
 #[test]
 fn what_is_not_there_comes_before_bad_fields(rt: HostRuntime) -> Result<(), Fail> {
     let alloc = rt.alloc();
     let mut book = Book::over(alloc, trial(alloc)?);
-    let row = ResourceRow {
-        id: ResourceId::of(4).ok_or("no resource")?,
-        name: Name::of(alloc, "")?,
-        kind: Kind::Generic,
-        calendar: None,
-        unit: UnitId::of(9).ok_or("no unit")?,
-        site: SiteId::of(1).ok_or("no site")?,
-    };
-    let outcome = put(alloc, &mut book, call(7, 1)?, AnyRow::Resource(row));
-    match outcome {
-        Outcome::Refused(Refusal::UnknownId(key)) => {
-            assert_eq!(rt; key.table, Table::Unit);
-            assert_eq!(rt; key.a, 9);
-        }
-        _ => panic!(rt; "not unknown"),
-    }
+    let told = put_resource_of_unit_9(alloc, &mut book);
+    discard(book);
+    assert_eq!(rt; told?, Told::Unknown(Table::Unit, 9));
     Ok(())
 }
 
-/// Group 1 of the trial tables under another number, in another window.
-fn group(alloc: Global, id: u32, from: u32, to: u32) -> Result<GroupRow, Fail>
-    ensures { IfOk result HasPlainLeaf }
-{
-    let node = Node {
-        depth: 0,
-        kind: NodeKind::Leaf,
-        same: Same::None,
-    };
-    let leaf = Leaf {
-        duration: 60,
-        effort: 1,
-        kinds: Items::new(alloc),
-        roles: Items::new(alloc),
-        characteristics: Items::new(alloc),
-        territories: Items::new(alloc),
-        units: Items::new(alloc),
-        required: Items::new(alloc),
-        restricted: Items::new(alloc),
-        window: None,
-    };
-    let mut leaves = Items::new(alloc);
-    leaves.push(leaf)?;
-    let mut nodes = Items::new(alloc);
-    nodes.push(node)?;
-    Ok(GroupRow {
-        id: GroupId::of(id).ok_or("no group")?,
-        name: Name::of(alloc, "Visit")?,
-        from: Minute::of(from).ok_or("no minute")?,
-        to: Minute::of(to).ok_or("no minute")?,
-        step: 60,
-        nodes,
-        leaves,
-    })
+fn ask(alloc: Global, book: &mut Book, query: Query) -> Told {
+    let command = Command::Ask(query);
+    what_came_of(book.step(alloc, 3, &command).outcome)
 }
 
 #[test]
-fn nothing_fits_a_short_window(rt: HostRuntime) -> Result<(), Fail> {
+fn a_search_from_noon_on_is_empty(rt: HostRuntime) -> Result<(), Fail> {
     let alloc = rt.alloc();
-    let mut book = Book::over(alloc, trial(alloc)?);
-    let empty = group(alloc, 2, 28_935_840, 28_935_840)?;
-    let empty = put_group(alloc, &mut book, call(7, 1)?, empty);
-    assert!(rt; is_bad(&empty, Field::To));
-    let short = group(alloc, 2, 28_935_840, 28_935_885)?;
-    let short = put_group(alloc, &mut book, call(7, 1)?, short);
-    assert!(rt; is_put(&short));
-    let rows = Command::Ask(Query::Rows {
-        group: GroupId::of(2).ok_or("no group")?,
+    let group = GroupId::of(1).ok_or("no group")?;
+    let noon = Minute::of(28_936_080);
+    let rows = Query::Rows {
+        group,
         options: Options {
-            from: None,
+            from: noon,
             to: None,
         },
         after: None,
         latest: false,
         limit: 50,
-    });
-    let answer = book.step(alloc, 3, &rows);
-    assert_eq!(rt; answer.revision, 1);
-    match answer.outcome {
-        Outcome::Done(Reply::Rows(page)) => {
-            assert!(rt; page.rows.is_empty());
-            assert!(rt; page.next.is_none());
-            assert!(rt; page.end);
-        }
-        _ => panic!(rt; "no page"),
-    }
-    let now = book.step(alloc, 3, &Command::Ask(Query::Revision));
-    assert_eq!(rt; now.revision, 1);
-    assert!(rt; matches!(now.outcome, Outcome::Done(Reply::Revision)));
+    };
+    let mut book = Book::over(alloc, trial(alloc)?);
+    let page = ask(alloc, &mut book, rows);
+    let revision = ask(alloc, &mut book, Query::Revision);
+    discard(book);
+    assert_eq!(rt; page, Told::EmptyPage);
+    assert_eq!(rt; revision, Told::Revision);
     Ok(())
 }
