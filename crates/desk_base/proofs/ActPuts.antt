@@ -60,11 +60,11 @@ counted_keeps t revision last s h Count k = λ e. h
 pub sound_counted : (t : Tables) (revision last : ℕ) → IsSound t → is_counted (counted t revision last) ≡ true → IsSound (counted t revision last)
 sound_counted t revision last s h = record { keeps = counted_keeps t revision last s h }
 
-next_revision : (n : ℕ) → nat_le n revision_limit ≡ true → n ≢ revision_limit → nat_le (n + 1) revision_limit ≡ true
+pub next_revision : (n : ℕ) → nat_le n revision_limit ≡ true → n ≢ revision_limit → nat_le (n + 1) revision_limit ≡ true
 next_revision n h k = grind (arith, nat_tests)
 
 -- each counter is within its limit, and no booking is above its own
-counts_kept : (t : Tables) → is_counted t ≡ true → (nat_le t.revision revision_limit ≡ true) × (nat_le t.last_booking serial_limit ≡ true) × (list_all (λ (b : BookingRow). nat_le b.id t.last_booking) t.bookings ≡ true)
+pub counts_kept : (t : Tables) → is_counted t ≡ true → (nat_le t.revision revision_limit ≡ true) × (nat_le t.last_booking serial_limit ≡ true) × (list_all (λ (b : BookingRow). nat_le b.id t.last_booking) t.bookings ≡ true)
 counts_kept t h =
     let both = nat_le t.revision revision_limit && nat_le t.last_booking serial_limit in
     let numbered = list_all (λ (b : BookingRow). nat_le b.id t.last_booking) t.bookings in

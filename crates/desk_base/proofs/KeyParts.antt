@@ -88,13 +88,13 @@ module _ {R : Type 0} (any : R → AnyRow) where
   above_key (z ∷ before) x after s y i = above_key before x after s.1 y i
 
   -- the parts around a row that has the key
-  mid-below : (k : Key) (before : List R) (x : R) (after : List R) → ((y : R) → IsIn y before → key_cmp (key_of (any y)) k ≡ Less) → key_cmp (key_of (any x)) k ≡ Equal → ((y : R) → IsIn y after → key_cmp (key_of (any y)) k ≡ Greater) → rows_below (λ y. key_of (any y)) k (before ++ x ∷ after) ≡ before
+  pub mid-below : (k : Key) (before : List R) (x : R) (after : List R) → ((y : R) → IsIn y before → key_cmp (key_of (any y)) k ≡ Less) → key_cmp (key_of (any x)) k ≡ Equal → ((y : R) → IsIn y after → key_cmp (key_of (any y)) k ≡ Greater) → rows_below (λ y. key_of (any y)) k (before ++ x ∷ after) ≡ before
   mid-below k before x after b e a =
       let p : R → Bool = λ y. is_below (key_of (any y)) k in
       filter-append p before (x ∷ after) ∙ ap (λ l. l ++ filter p (x ∷ after)) (filter_all p before (λ y i. ap is_lt (b y i)))
       ∙ ap (λ l. before ++ l) (filter_none p (x ∷ after) (λ y i. elim i [ inl f ↦ ap p f ∙ ap is_lt e | inr j ↦ ap is_lt (a y j) ])) ∙ append_nil before
 
-  mid-above : (k : Key) (before : List R) (x : R) (after : List R) → ((y : R) → IsIn y before → key_cmp (key_of (any y)) k ≡ Less) → key_cmp (key_of (any x)) k ≡ Equal → ((y : R) → IsIn y after → key_cmp (key_of (any y)) k ≡ Greater) → rows_above (λ y. key_of (any y)) k (before ++ x ∷ after) ≡ after
+  pub mid-above : (k : Key) (before : List R) (x : R) (after : List R) → ((y : R) → IsIn y before → key_cmp (key_of (any y)) k ≡ Less) → key_cmp (key_of (any x)) k ≡ Equal → ((y : R) → IsIn y after → key_cmp (key_of (any y)) k ≡ Greater) → rows_above (λ y. key_of (any y)) k (before ++ x ∷ after) ≡ after
   mid-above k before x after b e a =
       let p : R → Bool = λ y. is_below k (key_of (any y)) in
       filter-append p before (x ∷ after) ∙ ap (λ l. l ++ filter p (x ∷ after)) (filter_none p before (λ y i. ap is_lt (less_back (key_of (any y)) k (b y i))))

@@ -19,7 +19,7 @@ use Rattle.desk_base.specs.Trial.{no_rows}
 use Rattle.desk_base.proofs.Members.{IsIn, all_at, all_from, in_mapped, in-map, in-filter, sorted-append}
 use Rattle.desk_base.proofs.Sounds.{key_total}
 
-below_is_less : (o : Ordering) → is_lt o ≡ true → o ≡ Less
+pub below_is_less : (o : Ordering) → is_lt o ≡ true → o ≡ Less
 below_is_less Less e = refl
 below_is_less Equal e = absurd (false≢true e)
 below_is_less Greater e = absurd (false≢true e)
@@ -49,7 +49,7 @@ module _ {R : Type 0} (any : R → AnyRow) where
   )
   rise-filter_step p x xs a s false = s
 
-  rise-filter : (p : R → Bool) (xs : List R) → IsStrictlySortedBy key_cmp (keys_by any xs) → IsStrictlySortedBy key_cmp (keys_by any (filter p xs))
+  pub rise-filter : (p : R → Bool) (xs : List R) → IsStrictlySortedBy key_cmp (keys_by any xs) → IsStrictlySortedBy key_cmp (keys_by any (filter p xs))
   unfolding IsStrictlySortedBy
   rise-filter p [] s = tt
   rise-filter p (x ∷ xs) s = rise-filter_step p x xs s.0 (rise-filter p xs s.1) (p x)

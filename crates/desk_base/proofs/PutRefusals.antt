@@ -39,15 +39,15 @@ or_none : {A : Type 0} (o p : Option A) → option_or o p ≡ None → (o ≡ No
 or_none None p e = (refl, e)
 or_none (Some x) p e = absurd (false≢true (ap is_none e))
 
-map_none : {A B : Type 0} (f : A → B) (o : Option A) → option_map f o ≡ None → o ≡ None
+pub map_none : {A B : Type 0} (f : A → B) (o : Option A) → option_map f o ≡ None → o ≡ None
 map_none f None e = refl
 map_none f (Some x) e = absurd (false≢true (ap is_none e))
 
-test_fails : {A : Type 0} (b : Bool) (x : A) → cond b (Some x) None ≡ None → b ≡ false
+pub test_fails : {A : Type 0} (b : Bool) (x : A) → cond b (Some x) None ≡ None → b ≡ false
 test_fails true x e = absurd (false≢true (ap is_none e))
 test_fails false x e = refl
 
-all_there : (t : Tables) (keys : List Key) → find (λ k. not (is_there t k)) keys ≡ None → list_all (is_there t) keys ≡ true
+pub all_there : (t : Tables) (keys : List Key) → find (λ k. not (is_there t k)) keys ≡ None → list_all (is_there t) keys ≡ true
 all_there t [] e = refl
 all_there t (k ∷ keys) e = step (is_there t k) refl e (all_there t keys)
   where
@@ -56,15 +56,15 @@ all_there t (k ∷ keys) e = step (is_there t k) refl e (all_there t keys)
     step false h f more = absurd (false≢true (ap is_none f))
 
 -- of the refusals of a change none applies
-record NoneApplies (t : Tables) (journal : List Entry) (call : Call) (a : Act) : Type 0 where
-  entry : refused_entry t journal ≡ None
-  known : unknown_among t (cited_by a) ≡ None
-  field : refused_field t a ≡ None
-  tree : refused_tree a ≡ None
-  place : refused_place t call a ≡ None
-  booked : refused_booked t a ≡ None
+pub record NoneApplies (t : Tables) (journal : List Entry) (call : Call) (a : Act) : Type 0 where
+  pub entry : refused_entry t journal ≡ None
+  pub known : unknown_among t (cited_by a) ≡ None
+  pub field : refused_field t a ≡ None
+  pub tree : refused_tree a ≡ None
+  pub place : refused_place t call a ≡ None
+  pub booked : refused_booked t a ≡ None
 
-early_none : (t : Tables) (journal : List Entry) (call : Call) (a : Act) → early_refusal t journal call a ≡ None → NoneApplies t journal call a
+pub early_none : (t : Tables) (journal : List Entry) (call : Call) (a : Act) → early_refusal t journal call a ≡ None → NoneApplies t journal call a
 unfolding early_refusal
 early_none t journal call a e =
     let one = or_none (refused_entry t journal) _ e in

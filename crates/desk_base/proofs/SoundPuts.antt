@@ -84,15 +84,18 @@ none_filtered p (x ∷ xs) e = ap (λ b. cond b (x ∷ filter p xs) (filter p xs
     rest false h = h
 
 -- a group of the same bookings is booked as before
-pub booked_alike : (t u : Tables) (g : GroupRow) → u.bookings ≡ t.bookings → (bookings_of t g ≡ []) ⊎ IsBooked t g → (bookings_of u g ≡ []) ⊎ IsBooked u g
-booked_alike t u g e (inl h) = inl (ap (filter (λ (b : BookingRow). b.group == g.id)) e ∙ h)
-booked_alike t u g e (inr h) = inr (record {
+pub booked_as_before : (t u : Tables) (g : GroupRow) → bookings_of u g ≡ bookings_of t g → (bookings_of t g ≡ []) ⊎ IsBooked t g → (bookings_of u g ≡ []) ⊎ IsBooked u g
+booked_as_before t u g e (inl h) = inl (e ∙ h)
+booked_as_before t u g e (inr h) = inr (record {
   start = h.start;
   picks = h.picks;
   grid = h.grid;
   pattern = h.pattern;
-  each = λ j. ap (λ l. map ask_of (filter (λ (b : BookingRow). b.leaf == j) (filter (λ (b : BookingRow). b.group == g.id) l))) e ∙ h.each j;
+  each = λ j. ap (λ l. map ask_of (filter (λ (b : BookingRow). b.leaf == j) l)) e ∙ h.each j;
 })
+
+pub booked_alike : (t u : Tables) (g : GroupRow) → u.bookings ≡ t.bookings → (bookings_of t g ≡ []) ⊎ IsBooked t g → (bookings_of u g ≡ []) ⊎ IsBooked u g
+booked_alike t u g e h = booked_as_before t u g (ap (filter (λ (b : BookingRow). b.group == g.id)) e) h
 
 module _ (t : Tables) (row : AnyRow) (s : IsSound t) (fit : Suits t row) where
   put_booked : (g : GroupRow) → Contains (with_row t row).groups g → (bookings_of (with_row t row) g ≡ []) ⊎ IsBooked (with_row t row) g

@@ -20,7 +20,7 @@ is_less Equal e = absurd (false≢true e)
 is_less Greater e = absurd (false≢true e)
 
 -- one key comes before another, or after it, or they are one
-key_cases : (j k : Key) → (is_below j k ≡ true) ⊎ (is_below k j ≡ true) ⊎ (j ≡ k)
+pub key_cases : (j k : Key) → (is_below j k ≡ true) ⊎ (is_below k j ≡ true) ⊎ (j ≡ k)
 key_cases j k = go (key_cmp j k) refl
   where
     go : (r : Ordering) → key_cmp j k ≡ r → (is_below j k ≡ true) ⊎ (is_below k j ≡ true) ⊎ (j ≡ k)
@@ -28,7 +28,7 @@ key_cases j k = go (key_cmp j k) refl
     go Equal e = inr (inr (same_key j k e))
     go Greater e = inr (inl (ap is_lt (key_total.antisymm k j ∙ ap ordering_reverse e)))
 
-not_below_itself : (k : Key) → is_below k k ≡ true → ⊥
+pub not_below_itself : (k : Key) → is_below k k ≡ true → ⊥
 not_below_itself k h = false≢true (sym (ap is_lt (tied_itself key_total k)) ∙ h)
 
 module _ {R : Type 0} (key : R → Key) where

@@ -28,6 +28,8 @@ pub mod Acts
 pub mod Refusing
 pub mod Lookups
 pub mod OpenTables
+pub mod Formers
 pub mod Prepared
+pub mod Tried
 pub mod Steps
 pub mod Histories

@@ -1,5 +1,5 @@
 //! Rows of one table by their keys: searches, and lists with a row more or fewer.
-ghost use Rattle.std.specs.Prelude.{◌≡◌, ◌+◌, ◌-◌, ◌<◌, ◌≤◌, IfOk, IfErr, vec_len, vec_capacity, length};
+ghost use Rattle.std.specs.Prelude.{◌≡◌, ◌+◌, ◌-◌, ◌<◌, ◌≤◌, false, IfOk, IfErr, map, vec_len, vec_capacity, length};
 ghost use Rattle.std.specs.List.{list_any};
 ghost use Rattle.std.specs.List.Sorted.{IsStrictlySortedBy};
 ghost use Rattle.desk_base.specs.Keys.{key_cmp};
@@ -7,10 +7,13 @@ ghost use Rattle.desk_base.specs.Rows.{key_of, rows_in};
 ghost use Rattle.desk_base.specs.Refusing.{is_key, is_there};
 ghost use Rattle.desk_base.specs.Changes.{with_one, without_one};
 ghost use Rattle.desk_base.specs.Lookups.{keys_by, KeysRise, StandsAt, BelongsAt};
+ghost use Rattle.desk_base.specs.Formers.{former_in};
 
-use crate::keys::Row;
+use crate::formers::Former;
+use crate::rows::Row;
 use crate::tables::{Key, Table, Tables};
 use std::cmp::Ordering;
+use std::mem;
 
 /// Where a key stands among the rows of a table (`Ok`), or where a row of it belongs (`Err`).
 fn find<T: Row>(rows: &[T], table: Table, key: &Key) -> Result<usize, usize>
@@ -36,17 +39,22 @@ fn has_key<T: Row>(rows: &[T], table: Table, key: &Key) -> bool
     }
 }
 
-/// Puts a row in the place of the row of its key, or adds it where its key belongs. It takes no memory.
-pub(crate) fn put_in<T: Row>(rows: &mut Vec<T>, table: Table, row: T)
+/// Puts a row in the place of the row of its key, or adds it where its key belongs, and gives what stood there. It takes no
+/// memory: where no row has the key, there is room for one more.
+pub(crate) fn put_in<T: Row>(rows: &mut Vec<T>, table: Table, row: T) -> Former
     requires rise { IsStrictlySortedBy key_cmp (keys_by (T.any table) rows.old.items) }
-    requires room { vec_len rows.old < vec_capacity rows.old }
+    requires room { list_any (is_key (key_of (T.any table row))) (keys_by (T.any table) rows.old.items) ≡ false → vec_len rows.old < vec_capacity rows.old }
     ensures items { rows.new.items ≡ with_one (λ y. key_of (T.any table y)) row rows.old.items }
+    ensures former { result ≡ former_in (key_of (T.any table row)) (map (T.any table) rows.old.items) }
     ensures room { vec_capacity rows.old - vec_len rows.old ≤ vec_capacity rows.new - vec_len rows.new + 1 }
 {
     let key = row.key_in(table);
     match find(rows.as_slice(), table, &key) {
-        Ok(at) => rows[at] = row,
-        Err(at) => rows.insert(at, row).unwrap(),
+        Ok(at) => Former::Row(mem::replace(&mut rows[at], row).into_any(table)),
+        Err(at) => {
+            rows.insert(at, row).unwrap();
+            Former::Nothing(key)
+        }
     }
 }
 

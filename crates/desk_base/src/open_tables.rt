@@ -1,13 +1,16 @@
 //! Tables that stand open for a change: lists whose free places show, so that rows are put without memory.
-ghost use Rattle.std.specs.Prelude.{◌≡◌, ◌+◌, ◌≤◌, OnOk};
+ghost use Rattle.std.specs.Prelude.{◌≡◌, ◌+◌, ◌≤◌, false, OnOk};
 ghost use Rattle.desk_base.specs.Types.{Table};
 ghost use Rattle.desk_base.specs.Rows.{key_of};
+ghost use Rattle.desk_base.specs.Refusing.{is_there};
 ghost use Rattle.desk_base.specs.Changes.{with_row, without_key};
+ghost use Rattle.desk_base.specs.Formers.{former_at, put_back, HasPlace};
 ghost use Rattle.desk_base.specs.Lookups.{KeysRise};
 ghost use Rattle.desk_base.specs.OpenTables.{tables_of, room_in};
 
 use crate::booking_rows::{BookingRow, CallerRow};
 use crate::calendar_rows::{BreakRow, CalendarRow, DayRow, OffRow, WorkRow, ZoneRow};
+use crate::formers::Former;
 use crate::group_rows::GroupRow;
 use crate::items::Items;
 use crate::lookups::{put_in, take_out};
@@ -130,11 +133,12 @@ impl OpenTables {
         Ok(())
     }
 
-    /// Puts a row in the place of the row of its key, or adds it. It takes no memory.
-    pub(crate) fn put(&mut self, row: AnyRow)
+    /// Puts a row in the place of the row of its key, or adds it, and gives what stood there. It takes no memory.
+    pub(crate) fn put(&mut self, row: AnyRow) -> Former
         requires rise { KeysRise (tables_of self.old) }
-        requires room { 1 ≤ room_in self.old (key_of row).table }
+        requires room { is_there (tables_of self.old) (key_of row) ≡ false → 1 ≤ room_in self.old (key_of row).table }
         ensures tables { tables_of self.new ≡ with_row (tables_of self.old) row }
+        ensures former { result ≡ former_at (tables_of self.old) (key_of row) }
         ensures room { (table : Table) → room_in self.old table ≤ room_in self.new table + 1 }
     {
         match row {
@@ -207,6 +211,20 @@ impl OpenTables {
             Table::Booking => take_out(&mut self.bookings, Table::Booking, key),
             Table::Caller => take_out(&mut self.callers, Table::Caller, key),
             Table::BookingNumbers => {}
+        }
+    }
+
+    /// Puts back what stood under a key. It takes no memory.
+    pub(crate) fn put_back(&mut self, former: Former)
+        requires rise { KeysRise (tables_of self.old) }
+        requires place { HasPlace (tables_of self.old) former }
+        ensures { tables_of self.new ≡ put_back (tables_of self.old) former }
+    {
+        match former {
+            Former::Row(row) => {
+                let _later = self.put(row);
+            }
+            Former::Nothing(key) => self.take_out(&key),
         }
     }
 }
