@@ -1,6 +1,8 @@
 pub mod FrontLemmas
 pub mod LineFeeds
 pub mod Lists
+pub mod Numbers
+pub mod LengthLemmas
 pub mod FramingLemmas
 pub mod HeadSpans
 pub mod Cuts

@@ -1,4 +1,4 @@
-//! The limits of a request's head. They are this project's own.
+//! The limits of a request. They are this project's own.
 
 /// A head has at most this many bytes.
 pub const MOST_HEAD_BYTES: usize = 16_384;
@@ -9,3 +9,6 @@ pub const MOST_HEAD_LINES: usize = 96;
 /// Room for this many fields is given to `httparse`. A field ends with a line feed, so no head within the limit of
 /// lines has more.
 pub const MOST_HEAD_FIELDS: usize = 128;
+
+/// A body has at most this many bytes.
+pub const MOST_BODY_BYTES: usize = 65_536;

@@ -6,8 +6,8 @@ use desk_io::Bytes;
 pub enum HeadRule {
     /// No bytes can follow that make them a head (RFC 9112, as `httparse` reads it).
     Syntax,
-    /// They are a head of version 1.0, or one with a `Content-Length`, a `Transfer-Encoding` or a `Connection` field,
-    /// which desk does not serve yet.
+    /// They are a head that desk does not serve yet: one of version 1.0, one with a `Transfer-Encoding` or a `Connection`
+    /// field, one with two `Content-Length` fields, or one whose `Content-Length` is not one or more digits.
     NotBuilt,
 }
 
@@ -18,7 +18,7 @@ pub enum WireLimit {
     Head,
     /// The line feeds of a head.
     Lines,
-    /// The bytes of a body.
+    /// The bytes of a body, as its head says them.
     Body,
 }
 
@@ -38,6 +38,7 @@ pub struct Request {
     pub version: u8,
     /// Whether the conversation ends with the response. No head that is served yet asks for it.
     pub close: bool,
+    /// As many bytes as `Content-Length` says, and none without that field.
     pub body: Bytes,
 }
 

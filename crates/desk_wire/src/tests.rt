@@ -1,5 +1,5 @@
-//! What no clause says: the limits and the refusals by their bytes, requests cut into pieces, and the exact text of
-//! responses. Each public call is made once with ample memory.
+//! What no clause says: the limits and the refusals by their bytes, requests cut into pieces, bodies by what their heads
+//! say, and the exact text of responses. Each public call is made once with ample memory.
 use crate::{Allow, BodyKind, Framer, HeadRule, Next, Response, WireLimit, response_bytes};
 use desk_io::Bytes;
 use std::alloc::Global;
@@ -19,7 +19,7 @@ fn word_of(next: &Next) -> &'static str {
 
 #[test]
 fn what_stands_at_the_front(rt: HostRuntime) -> Result<(), Fail> {
-    let rows: [(&[u8], &str); 12] = [
+    let rows: [(&[u8], &str); 16] = [
         (b"GET / HTTP/1.1\r\n\r\n", "request"),
         (b"\r\nGET / HTTP/1.1\nHost: desk\n\n", "request"),
         (b"", "more"),
@@ -29,9 +29,22 @@ fn what_stands_at_the_front(rt: HostRuntime) -> Result<(), Fail> {
         (b"GET / HTTP/2.0\r\n\r\n", "syntax"),
         (b"GET /\xff HTTP/1.1\r\n\r\n", "syntax"),
         (b"GET / HTTP/1.0\r\n\r\n", "not built"),
-        (b"GET / HTTP/1.1\r\nContent-Length: 0\r\n\r\n", "not built"),
         (
-            b"GET / HTTP/1.1\r\nTRANSFER-ENCODING: chunked\r\n\r\n",
+            b"GET / HTTP/1.1\r\nContent-Length: 4\r\n\r\nbody",
+            "request",
+        ),
+        (b"POST / HTTP/1.1\r\ncontent-length: 4\r\n\r\nbod", "more"),
+        (
+            b"POST / HTTP/1.1\r\ncontent-length: 1x\r\n\r\n1",
+            "not built",
+        ),
+        (b"POST / HTTP/1.1\r\nContent-Length: \r\n\r\n", "not built"),
+        (
+            b"POST / HTTP/1.1\r\nContent-Length: 1\r\nHost: desk\r\nContent-Length: 1\r\n\r\n1",
+            "not built",
+        ),
+        (
+            b"GET / HTTP/1.1\r\nContent-Length: 65537\r\nTRANSFER-ENCODING: chunked\r\n\r\n",
             "not built",
         ),
         (
@@ -87,16 +100,18 @@ fn limits_of_a_head(rt: HostRuntime) -> Result<(), Fail> {
     Ok(())
 }
 
+// The body of the second is itself the beginning of a head.
 const THREE: &[u8] =
-    b"GET /add HTTP/1.1\r\n\r\nPOST /b?c=d HTTP/1.1\r\nHost: desk\r\n\r\nGET / HTTP/1.1\n\n";
+    b"GET /add HTTP/1.1\r\n\r\nPOST /b?c=d HTTP/1.1\r\nHost: desk\r\nContent-Length: 10\r\n\r\nGET /e \r\n\nGET / HTTP/1.1\n\n";
 
-// Feeds the piece, and notes method and target of each request that is whole then.
+// Feeds the piece, and notes method, target and body of each request that is whole then.
 fn note(alloc: Global, framer: &mut Framer, piece: &[u8], seen: &mut Vec<u8>) -> Result<(), Fail> {
     framer.feed(piece)?;
     for _ in 0..3 {
         if let Next::Request(request) = framer.next_request(alloc)? {
             seen.extend_from_slice(request.method.as_slice())?;
             seen.extend_from_slice(request.target.as_slice())?;
+            seen.extend_from_slice(request.body.as_slice())?;
             seen.push(b';')?;
         }
     }
@@ -105,7 +120,7 @@ fn note(alloc: Global, framer: &mut Framer, piece: &[u8], seen: &mut Vec<u8>) ->
 
 #[test]
 fn the_same_requests_however_they_are_cut(rt: HostRuntime) -> Result<(), Fail> {
-    let wanted = b"GET/add;POST/b?c=d;GET/;".as_slice();
+    let wanted = b"GET/add;POST/b?c=dGET /e \r\n\n;GET/;".as_slice();
     for size in 1..8 {
         let mut framer = Framer::new(rt.alloc());
         let mut seen = Vec::new(rt.alloc());
@@ -126,6 +141,51 @@ fn the_same_requests_however_they_are_cut(rt: HostRuntime) -> Result<(), Fail> {
             seen.as_slice() == wanted && framer.is_empty(),
             "cut at {cut}"
         );
+    }
+    Ok(())
+}
+
+fn feed_times(framer: &mut Framer, text: &[u8], times: usize) -> Result<(), Fail> {
+    for _ in 0..times {
+        framer.feed(text)?;
+    }
+    Ok(())
+}
+
+// A head whose length is the text, so many times, and behind it so many bytes.
+fn framer_of(alloc: Global, text: &[u8], times: usize, behind: usize) -> Result<Framer, Fail> {
+    let mut framer = Framer::new(alloc);
+    framer.feed(b"POST /changes HTTP/1.1\r\nContent-Length:")?;
+    feed_times(&mut framer, text, times)?;
+    framer.feed(b"\r\n\r\n")?;
+    feed_times(&mut framer, b"y", behind)?;
+    Ok(framer)
+}
+
+fn body_len(next: &Next) -> usize {
+    match next {
+        Next::Request(request) => request.body.as_slice().len(),
+        _ => 0,
+    }
+}
+
+#[test]
+fn bodies_by_their_lengths(rt: HostRuntime) -> Result<(), Fail> {
+    let rows: [(&[u8], usize, usize, &str, usize); 8] = [
+        (b"0", 1, 0, "request", 0),
+        (b" \t10\t ", 1, 9, "more", 0),
+        (b" \t10\t ", 1, 11, "request", 10),
+        (b"0", 5_000, 1, "request", 0),
+        (b"65536", 1, 65_535, "more", 0),
+        (b"65536", 1, 65_536, "request", 65_536),
+        (b"65537", 1, 0, "body", 0),
+        (b"9", 5_000, 0, "body", 0),
+    ];
+    for (text, times, behind, wanted, len) in rows {
+        let mut framer = framer_of(rt.alloc(), text, times, behind)?;
+        let next = framer.next_request(rt.alloc())?;
+        assert_eq!(rt; word_of(&next), wanted);
+        assert_eq!(rt; body_len(&next), len);
     }
     Ok(())
 }
