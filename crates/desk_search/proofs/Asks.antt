@@ -30,7 +30,7 @@ length_asks s i (l ∷ ls) [] = omega arith
 length_asks s i (l ∷ ls) (None ∷ picks) = omega (arith, length_asks s (i + 1) ls picks)
 length_asks s i (l ∷ ls) (Some r ∷ picks) = omega (arith, length_asks s (i + 1) ls picks)
 
-length_filtered : (p : BookingRow → Bool) (bs : List BookingRow) → length (filter p bs) ≤ length bs
+pub length_filtered : (p : BookingRow → Bool) (bs : List BookingRow) → length (filter p bs) ≤ length bs
 length_filtered p bs = rw length-filter (count_by-le-length p bs)
 
 pub length_others : (t : Tables) (g : GroupRow) → length (other_asks t g) ≤ length t.bookings

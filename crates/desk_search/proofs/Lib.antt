@@ -9,6 +9,9 @@ pub mod Nearest
 pub mod Picked
 pub mod Bearing
 pub mod Tests
+pub mod BadShapes
+pub mod SomePatterns
+pub mod PlaceRefusals
 pub mod Asks
 pub mod Places
 pub mod Below

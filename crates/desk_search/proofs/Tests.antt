@@ -27,7 +27,7 @@ use Rattle.desk_search.proofs.Fitting.{have_room_decides, AreInHorizon}
 
 -- ---- starts and options
 
-pub grid_decides : (g : GroupRow) (s : ℕ) → Decides (is_on_grid g s) (IsOnGrid g s)
+grid_decides : (g : GroupRow) (s : ℕ) → Decides (is_on_grid g s) (IsOnGrid g s)
 grid_decides g s = (
   λ e. record { from = grind (arith, nat_tests); below = grind (arith, nat_tests); steps = grind (arith, nat_tests) },
   λ h. let a = h.from in let b = h.below in let c = h.steps in grind (arith, nat_tests),
@@ -67,7 +67,7 @@ take_front : {A : Type 0} (xs ys : List A) → take (length xs) (xs ++ ys) ≡ x
 take_front [] ys = refl
 take_front (x ∷ xs) ys = ap (λ l. x ∷ l) (take_front xs ys)
 
-begins_decides : (g : GroupRow) (q : List Bool) → Decides (begins_pattern g q) ((rest : List Bool) × Contains (patterns (tree_of g.nodes)) (q ++ rest))
+pub begins_decides : (g : GroupRow) (q : List Bool) → Decides (begins_pattern g q) ((rest : List Bool) × Contains (patterns (tree_of g.nodes)) (q ++ rest))
 begins_decides g q = (
   λ e. let h = list_any_at (begins q) (patterns (tree_of g.nodes)) e in
       let same = (same_bits_decides (take (length q) h.0) q).0 h.2 in
@@ -105,7 +105,7 @@ asks_in_horizon t g s cs h low e a i m from below =
 
 -- ---- all tests
 
-pub none_decides : (o : Option ℕ) → Decides (is_none o) (o ≡ None)
+none_decides : (o : Option ℕ) → Decides (is_none o) (o ≡ None)
 none_decides None = (λ _. refl, λ _. refl)
 none_decides (Some x) = (λ e. absurd (false≢true e), λ e. cc)
 

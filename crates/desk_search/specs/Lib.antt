@@ -3,6 +3,8 @@ pub mod Sorts
 pub mod Rooms
 pub mod Parts
 pub mod Tests
+pub mod Shapes
+pub mod PlaceRefusals
 pub mod Places
 pub mod Clashes
 pub mod Events

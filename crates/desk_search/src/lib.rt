@@ -2,8 +2,9 @@
 //!
 //! `capacity::capacity` is the capacity of a plain resource at a minute. `first_broken_rule` and `first_broken_at` say which
 //! rule of a leaf a resource breaks. `live_positions` lists every position from which a search goes on, `rows` the feasible
-//! rows among them, and `page` the page after any position. Each is the definition that it is named for, for every group of
-//! sound tables: the one other answer is `NoMemory`.
+//! rows among them, and `page` the page after any position. `clash` is where bookings do not fit, and `place_refusal` why a
+//! group cannot be booked with some picks. Each is the definition that it is named for, for every group of sound tables: the
+//! one other answer is `NoMemory`.
 #![tactic(auto)]
 
 pub mod capacity;
@@ -13,7 +14,9 @@ mod clashes;
 mod events;
 mod extracts;
 mod lookup;
+mod place_refusals;
 mod search;
 
 pub use clashes::clash;
+pub use place_refusals::place_refusal;
 pub use search::{first_broken_at, first_broken_rule, live_positions, page, rows};

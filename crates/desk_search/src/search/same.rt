@@ -214,6 +214,23 @@ fn first_broken_same(
     }
 }
 
+/// The first of the group's nodes whose part-of-same is broken.
+pub fn first_broken_node(
+    alloc: Global,
+    tables: &Tables,
+    start: u32,
+    group: &GroupRow,
+    picks: &[Option<ResourceId>],
+) -> Result<Option<usize>, AllocError>
+    requires { length group.now.nodes ≤ 2 ^ 19 }
+    ensures value { IfOk result (λ n. n ≡ first_broken_same tables.now start group.now.nodes group.now.leaves picks.now) }
+    ensures small { IfOk result (λ n. MatchOption n ⊤ (λ k. k < length group.now.nodes)) }
+{
+    let nodes = group.nodes.as_slice();
+    let leaves = group.leaves.as_slice();
+    first_broken_same(alloc, tables, start, 0, nodes, leaves, picks)
+}
+
 /// Whether no node's part-of-same is broken.
 pub fn are_same(
     alloc: Global,
@@ -225,8 +242,6 @@ pub fn are_same(
     requires { length group.now.nodes ≤ 2 ^ 19 }
     ensures { IfOk result (λ b. b ≡ is_none (first_broken_same tables.now start group.now.nodes group.now.leaves picks.now)) }
 {
-    let nodes = group.nodes.as_slice();
-    let leaves = group.leaves.as_slice();
-    let broken = first_broken_same(alloc, tables, start, 0, nodes, leaves, picks)?;
+    let broken = first_broken_node(alloc, tables, start, group, picks)?;
     Ok(broken.is_none())
 }

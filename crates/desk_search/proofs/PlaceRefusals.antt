@@ -1,0 +1,91 @@
+-- Each point that a start and picks break is the verdict on them where they keep those before it.
+use Rattle.std.proofs.Common.{◌≡◌, ℕ, ◌+◌, ◌≤◌, true, not, ◌==◌, List, [], ◌∷◌, ◌++◌, map, length, Option, Some, None, refl, sym, ap, subst, arith, is_none, unwrap_or}
+use Rattle.std.proofs.lemmas.Bool.{false≢true}
+use Rattle.std.proofs.lemmas.List.{length-map}
+use Rattle.std.specs.Prelude.{option_map}
+use Rattle.std.specs.List.{list_all}
+use Rattle.std.specs.Option.{option_or}
+use Rattle.desk_base.specs.declared.tables.Tables.{Tables}
+use Rattle.desk_base.specs.declared.group_rows.GroupRow.{GroupRow}
+use Rattle.desk_base.specs.declared.booking_rows.BookingRow.{BookingRow}
+use Rattle.desk_base.specs.declared.searches.Ask.{Ask}
+use Rattle.desk_base.specs.declared.refusals.Clash.{Clash}
+use Rattle.desk_base.specs.declared.refusals.Refusal.{Refusal}
+use Rattle.desk_base.specs.declared.refusals.Refusal.TheVariants.{Conflict}
+use Rattle.desk_base.specs.declared.rules.LeafRule.{LeafRule}
+use Rattle.desk_base.specs.declared.tables.Table.TheVariants.{Member as MemberTable}
+use Rattle.desk_base.specs.declared.tables.AnyRow.TheVariants.{Member}
+use Rattle.desk_base.specs.TableLimits.{limit_of}
+use Rattle.desk_base.specs.Rows.{key_of}
+use Rattle.desk_base.specs.Sound.{IsSound}
+use Rattle.desk_base.specs.Eligible.{first_broken_at}
+use Rattle.desk_base.specs.Load.{Fits}
+use Rattle.desk_base.specs.Picks.{Choice, choices_of, first_broken_same}
+use Rattle.desk_base.specs.Listing.{IsFeasible, serves, other_asks, asks_for}
+use Rattle.desk_base.specs.Verdicts.{Unserved, first_unserved, HasShape, IsServed}
+use Rattle.desk_base.specs.Steps.{others_of, IsConflict, IsPlaceRefusal}
+use Rattle.desk_base.proofs.Clashes.{clash-not_fits}
+use Rattle.desk_base.proofs.Sounds.{few_keys}
+use Rattle.desk_base.proofs.Tests.{and_both}
+use Rattle.desk_search.specs.PlaceRefusals.{not_eligible}
+use Rattle.desk_search.proofs.Asks.{length_asks, length_filtered}
+
+-- ---- few rows
+
+pub few_members : (t : Tables) → IsSound t → length t.members ≤ limit_of MemberTable
+few_members t s =
+    let h = few_keys t MemberTable s in
+    let a = length-map (map Member t.members) key_of in
+    let b = length-map t.members Member in omega arith
+
+-- the bookings of others and those that are asked for are no more than all bookings and the leaves
+pub few_together : (t : Tables) (g : GroupRow) (s n : ℕ) (picks : List (Option ℕ)) (others : List BookingRow) (asked : List Ask) → others ≡ others_of t g.id → asked ≡ asks_for g s picks → length t.bookings + length g.leaves ≤ n → length others + length asked ≤ n
+few_together t g s n picks others asked e f h =
+    let a = ap length e in
+    let b = ap length f in
+    let k = length_filtered (λ b. not (b.group == g.id)) t.bookings in
+    let l = length_asks s 0 g.leaves picks in omega arith
+
+-- ---- eligibility
+
+-- where no leaf is unserved each chosen resource serves its leaf
+unserved_step : (o : Option LeafRule) (c : Choice) (later : Option Unserved) → option_or (option_map (λ (broken : LeafRule). record { choice = c; rule = broken }) o) later ≡ None → (is_none o ≡ true) × (later ≡ None)
+unserved_step None c later e = (refl, e)
+unserved_step (Some broken) c later e = absurd (false≢true (ap is_none e))
+
+pub none_unserved : (t : Tables) (g : GroupRow) (s : ℕ) (cs : List Choice) → first_unserved t g s cs ≡ None → list_all (serves t g s) cs ≡ true
+none_unserved t g s [] e = refl
+none_unserved t g s (c ∷ cs) e =
+    let h = unserved_step (first_broken_at t g c.leaf s c.resource) c (first_unserved t g s cs) e in
+    and_both (serves t g s c) (list_all (serves t g s) cs) h.0 (none_unserved t g s cs h.1)
+
+none_mapped : (o : Option Unserved) → None ≡ option_map not_eligible o → o ≡ None
+none_mapped None e = refl
+none_mapped (Some u) e = absurd (false≢true (sym (ap is_none e)))
+
+pub served_from : (t : Tables) (g : GroupRow) (s : ℕ) (picks : List (Option ℕ)) → HasShape g s picks → None ≡ option_map not_eligible (first_unserved t g s (choices_of 0 g.leaves picks)) → IsServed t g s picks
+served_from t g s picks shape e = record {
+  shape = shape;
+  serve = none_unserved t g s (choices_of 0 g.leaves picks) (none_mapped (first_unserved t g s (choices_of 0 g.leaves picks)) e);
+}
+
+module _ (t : Tables) (g : GroupRow) (s : ℕ) (picks : List (Option ℕ)) where
+  unserved_by : (o : Option Unserved) (why : Refusal) → first_unserved t g s (choices_of 0 g.leaves picks) ≡ o → Some why ≡ option_map not_eligible o → HasShape g s picks → IsPlaceRefusal t g s picks why
+  unserved_by None why e f shape = absurd (false≢true (ap is_none f))
+  unserved_by (Some u) why e f shape =
+      let same : not_eligible u ≡ why = sym (ap (λ o. unwrap_or o why) f) in
+      subst (IsPlaceRefusal t g s picks) same (shape, (u.choice, e, refl, refl))
+
+  pub unserved_is : (why : Refusal) → Some why ≡ option_map not_eligible (first_unserved t g s (choices_of 0 g.leaves picks)) → HasShape g s picks → IsPlaceRefusal t g s picks why
+  unserved_is why f shape = unserved_by (first_unserved t g s (choices_of 0 g.leaves picks)) why refl f shape
+
+  -- ---- room
+
+  pub feasible : IsServed t g s picks → first_broken_same t s g.nodes g.leaves picks ≡ None → Fits t (other_asks t g ++ asks_for g s picks) → IsFeasible t g s picks
+  feasible served same fits = record {
+    consistent = record { grid = served.shape.grid; serve = served.serve; same = same; fits = fits };
+    pattern = served.shape.pattern;
+  }
+
+  pub conflict : (c : Clash) → IsServed t g s picks → first_broken_same t s g.nodes g.leaves picks ≡ None → IsConflict t (others_of t g.id) (asks_for g s picks) c → IsPlaceRefusal t g s picks (Conflict c)
+  conflict c served same h = ((served, same, clash-not_fits t (others_of t g.id) (asks_for g s picks) c.resource c.minute c.capacity h.clash), h)
