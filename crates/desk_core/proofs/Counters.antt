@@ -1,5 +1,5 @@
 -- The counters of sound tables are within their limits.
-use Rattle.std.proofs.Common.{◌≡◌, ℕ, ◌≤◌, ◌&&◌, nat_le, refl, arith}
+use Rattle.std.proofs.Common.{◌≤◌, ◌&&◌, nat_le, refl, arith}
 use Rattle.std.proofs.lemmas.Bool.Decides.{nat_tests}
 use Rattle.std.specs.List.{list_all}
 use Rattle.desk_base.specs.declared.tables.Tables.{Tables}

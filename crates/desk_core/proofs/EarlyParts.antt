@@ -1,5 +1,5 @@
 -- The refusals of a served change that rows show are those of its call, of what it says, and of what stands.
-use Rattle.std.proofs.Common.{◌≡◌, ℕ, [], ◌∷◌, length, Option, Some, None, refl, sym, ap, ◌∙◌, subst}
+use Rattle.std.proofs.Common.{◌≡◌, [], ◌∷◌, length, Option, Some, None, refl, sym, ap, ◌∙◌}
 use Rattle.std.specs.Option.{option_or}
 use Rattle.std.specs.Prelude.{List, option_map}
 use Rattle.desk_base.specs.declared.tables.Tables.{Tables}
@@ -33,25 +33,28 @@ no_fault g h = ap (λ (n : List Node). option_map (λ f. BadTree f.rule f.node) 
 abbrev pub in_parts : Tables → List Entry → Call → Act → Option Refusal
 in_parts t journal call a =
     option_or (option_or (refused_entry t journal) (refused_number (last_number t call.caller) call.number))
-    (option_or (option_or (unknown_among t (cited_by a)) (refused_field t a)) (option_or (refused_place t call a) (refused_booked t a)))
+    (option_or (option_or (unknown_among t (cited_by a)) (refused_field t a)) (option_or (refused_place t call a) (option_or (refused_booked t a) (refused_open t a))))
 
-join : (e n u f tree place booked : Option Refusal) → tree ≡ None
-    → option_or (option_or e n) (option_or (option_or u f) (option_or place booked)) ≡ option_or e (option_or n (option_or u (option_or f (option_or tree (option_or None (option_or place (option_or booked (option_or None None))))))))
-join e n u f tree place booked h =
-    or-or e n (option_or (option_or u f) (option_or place booked))
-    ∙ ap (λ x. option_or e (option_or n x)) (or-or u f (option_or place booked))
-    ∙ ap (λ x. option_or e (option_or n (option_or u (option_or f (option_or place x))))) (sym (or-none booked))
-    ∙ ap (λ x. option_or e (option_or n (option_or u (option_or f (option_or x (option_or place (option_or booked None))))))) (sym h)
+join : (e n u f tree place booked stands : Option Refusal) → tree ≡ None
+    → option_or (option_or e n) (option_or (option_or u f) (option_or place (option_or booked stands))) ≡ option_or e (option_or n (option_or u (option_or f (option_or tree (option_or None (option_or place (option_or booked (option_or stands None))))))))
+join e n u f tree place booked stands h =
+    or-or e n (option_or (option_or u f) (option_or place (option_or booked stands)))
+    ∙ ap (λ x. option_or e (option_or n x)) (or-or u f (option_or place (option_or booked stands)))
+    ∙ ap (λ x. option_or e (option_or n (option_or u (option_or f (option_or place (option_or booked x)))))) (sym (or-none stands))
+    ∙ ap (λ x. option_or e (option_or n (option_or u (option_or f (option_or x (option_or place (option_or booked (option_or stands None)))))))) (sym h)
+
+joined : (t : Tables) (journal : List Entry) (call : Call) (a : Act) → refused_tree a ≡ None → refused_removal t a ≡ None → in_parts t journal call a ≡ early_refusal t journal call a
+unfolding early_refusal
+joined t journal call a h k =
+    join (refused_entry t journal) (refused_number (last_number t call.caller) call.number) (unknown_among t (cited_by a)) (refused_field t a) (refused_tree a) (refused_place t call a) (refused_booked t a) (refused_open t a) h
+    ∙ ap (λ x. option_or (refused_entry t journal) (option_or (refused_number (last_number t call.caller) call.number) (option_or (unknown_among t (cited_by a)) (option_or (refused_field t a) (option_or (refused_tree a) (option_or x (option_or (refused_place t call a) (option_or (refused_booked t a) (option_or (refused_open t a) None))))))))) (sym k)
 
 pub early-parts : (t : Tables) (journal : List Entry) (call : Call) (a : Act) → IsServed a → in_parts t journal call a ≡ early_refusal t journal call a
-unfolding early_refusal
-early-parts t journal call (act.Put row) s = join (refused_entry t journal) (refused_number (last_number t call.caller) call.number) (unknown_among t (cited_by (act.Put row))) (refused_field t (act.Put row)) None (refused_place t call (act.Put row)) (refused_booked t (act.Put row)) refl
-early-parts t journal call (act.PutGroup g) s = join (refused_entry t journal) (refused_number (last_number t call.caller) call.number) (unknown_among t (cited_by (act.PutGroup g))) (refused_field t (act.PutGroup g)) (refused_tree (act.PutGroup g)) (refused_place t call (act.PutGroup g)) (refused_booked t (act.PutGroup g)) (no_fault g s)
-early-parts t journal call (act.Remove key) s = absurd s
-early-parts t journal call (act.DropGroup group) s = absurd s
-early-parts t journal call (act.BookGroup group start picks) s = absurd s
-early-parts t journal call (act.MoveGroup group start picks) s = absurd s
-early-parts t journal call (act.CancelGroup group) s = absurd s
+early-parts t journal call (act.Put row) s = joined t journal call (act.Put row) refl refl
+early-parts t journal call (act.PutGroup g) s = joined t journal call (act.PutGroup g) (no_fault g s) refl
+early-parts t journal call (act.BookGroup group start picks) s = joined t journal call (act.BookGroup group start picks) refl refl
+early-parts t journal call (act.CancelGroup group) s = joined t journal call (act.CancelGroup group) refl refl
+early-parts t journal call _ s = absurd s
 
 -- the first of three is the first of them all
 pub first_part : {A : Type 0} (x y z : Option A) (r : A) → Some r ≡ x → Some r ≡ option_or x (option_or y z)

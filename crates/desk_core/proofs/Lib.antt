@@ -2,4 +2,9 @@
 pub mod GroupsThere
 pub mod Counters
 pub mod EarlyParts
+pub mod Picking
+pub mod Chosen
+pub mod GroupCounts
+pub mod Trying
+pub mod Unrefused
 pub mod Outcomes

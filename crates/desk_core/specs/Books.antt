@@ -1,5 +1,5 @@
 -- What a book shows, and what each of them keeps.
-use Rattle.std.specs.Prelude.{◌≡◌, List, []}
+use Rattle.std.specs.Prelude.{◌≡◌, List}
 use Rattle.desk_base.specs.declared.tables.Tables.{Tables}
 use Rattle.desk_base.specs.declared.changes.Entry.{Entry}
 use Rattle.desk_base.specs.Sound.{IsSound}
@@ -16,4 +16,3 @@ pub record IsKept (opened tables : Tables) (journal : List Entry) : Type 0 where
   pub sound : IsSound tables
   pub legal : IsLegal opened journal
   pub after : tables ≡ after_journal opened journal
-  pub unbooked : tables.bookings ≡ []

@@ -4,7 +4,7 @@ use Rattle.desk_base.specs.declared.tables.AnyRow.{AnyRow}
 use Rattle.desk_base.specs.declared.group_rows.GroupRow.{GroupRow}
 use Rattle.desk_base.specs.declared.group_rows.Leaf.{Leaf}
 use Rattle.desk_base.specs.declared.group_rows.Node.{Node}
-use Rattle.desk_base.specs.declared.tables.AnyRow.TheVariants.{Zone, Calendar, Work, Break, Day, Off, Unit, Site, Role, Characteristic, Territory, Resource, HasRole, HasCharacteristic, HasTerritory, Member, Group, Booking, Caller}
+use Rattle.desk_base.specs.declared.tables.AnyRow.TheVariants.{Zone, Calendar, Work, Unit, Site, Resource}
 use Rattle.desk_base.specs.declared.group_rows.NodeKind.TheVariants.{Leaf as LeafNode}
 use Rattle.desk_base.specs.declared.group_rows.Same.TheVariants.{None as NoSame}
 use Rattle.desk_base.specs.declared.changes.Act.{Act}
@@ -48,6 +48,8 @@ CanBePut _ = ⊥
 abbrev pub IsServed : Act → Type 0
 IsServed (act.Put row) = CanBePut row
 IsServed (act.PutGroup g) = HasPlainLeaf g
+IsServed (act.BookGroup group start picks) = ⊤
+IsServed (act.CancelGroup group) = ⊤
 IsServed _ = ⊥
 
 -- a command that is served

@@ -2,4 +2,5 @@
 pub mod Books
 pub mod Built
 pub mod Answering
+pub mod Effects
 pub mod Entered

@@ -1,98 +1,88 @@
-//! What an accepted change is kept as: its entry, and its rows.
-ghost use Rattle.std.specs.Prelude.{◌≡◌, ◌≤◌, ◌++◌, ◌∷◌, [], IfOk};
-ghost use Rattle.desk_base.specs.Acts.{put_by, receipt_of, caller_row, change_of};
-ghost use Rattle.desk_base.specs.Limits.{revision_limit};
+//! What an accepted change is kept as: its rows with that of the caller, and its entry in the journal.
+ghost use Rattle.std.specs.Prelude.{◌≡◌, ◌+◌, ◌≤◌, ◌++◌, ◌∷◌, [], length, IfOk};
+ghost use Rattle.desk_base.specs.Acts.{change_of, made_by};
+ghost use Rattle.desk_base.specs.Limits.{serial_limit};
+ghost use Rattle.desk_base.specs.Sound.{IsSound};
 ghost use Rattle.desk_base.specs.Steps.{entry_of};
-ghost use Rattle.desk_base.specs.declared.tables.Tables.{Tables};
+ghost use Rattle.desk_base.specs.declared.tables.AnyRow.TheVariants.{Caller};
 ghost use Rattle.desk_core.specs.Built.{IsServed};
+ghost use Rattle.desk_core.specs.Effects.{IsPlaced};
 
+use crate::effects::{Effect, effect_of};
 use desk_base::{
-    Act, AnyRow, AnyRows, Call, CallerRow, Change, Duplicate, Entry, Items, NoMemory, Receipt,
-    Tables,
+    Act, AnyRow, Call, CallerRow, Change, Duplicate, Entry, NoMemory, Receipt, Tables,
 };
 use std::alloc::Global;
 
-/// What a served act gives.
-pub(crate) fn receipt_of(act: &Act) -> Receipt
-    requires { IsServed act.now }
-    ensures { (t : Tables) → receipt_of t act.now ≡ result }
-{
-    match act {
-        Act::Put(_) => Receipt::Put,
-        Act::PutGroup(_) => Receipt::Put,
-        _ => unreachable!(),
-    }
+/// An accepted change: the rows that it comes to, and its entry in the journal.
+#[derive(Drop)]
+pub(crate) struct Accepted {
+    pub(crate) change: Change,
+    pub(crate) entry: Entry,
 }
 
-/// The row that a served act puts.
-fn row_of(alloc: Global, act: &Act) -> Result<AnyRow, NoMemory>
-    requires { IsServed act.now }
-    ensures { IfOk result (λ row. (t : Tables) → put_by t act.now ≡ row ∷ []) }
+/// The rows of an act with that of the caller, and the counters after it.
+fn change_of(tables: &Tables, call: &Call, effect: Effect) -> Result<Change, NoMemory>
+    requires sound { IsSound tables.now }
+    requires numbers { tables.now.last_booking + effect.made ≤ serial_limit }
+    ensures { IfOk result (λ change. change ≡ record { puts = effect.puts ++ Caller (record { caller = call.now.caller; last = call.now.number; receipt = effect.receipt }) ∷ []; removes = effect.removes; revision = tables.now.revision + 1; last_booking = tables.now.last_booking + effect.made }) }
 {
-    match act {
-        Act::Put(row) => row.copy(alloc),
-        Act::PutGroup(group) => Ok(AnyRow::Group(group.copy(alloc)?)),
-        _ => unreachable!(),
-    }
-}
-
-fn caller_row(call: &Call, act: &Act) -> AnyRow
-    requires { IsServed act.now }
-    ensures { (t : Tables) → caller_row t call.now act.now ≡ result }
-{
-    AnyRow::Caller(CallerRow {
+    let Effect {
+        mut puts,
+        removes,
+        made,
+        receipt,
+    } = effect;
+    puts.push(AnyRow::Caller(CallerRow {
         caller: call.caller,
         last: call.number,
-        receipt: receipt_of(act),
-    })
-}
-
-fn puts_of(alloc: Global, tables: &Tables, call: &Call, act: &Act) -> Result<AnyRows, NoMemory>
-    requires { IsServed act.now }
-    ensures { IfOk result (λ puts. puts ≡ put_by tables.now act.now ++ caller_row tables.now call.now act.now ∷ []) }
-{
-    let mut puts = Items::new(alloc);
-    puts.push(row_of(alloc, act)?)?;
-    puts.push(caller_row(call, act))?;
-    Ok(puts)
-}
-
-/// The rows that a served act comes to.
-pub(crate) fn change_of(
-    alloc: Global,
-    tables: &Tables,
-    call: &Call,
-    act: &Act,
-) -> Result<Change, NoMemory>
-    requires served { IsServed act.now }
-    requires revision { tables.now.revision ≤ revision_limit }
-    ensures { IfOk result (λ change. change ≡ change_of tables.now call.now act.now) }
-{
+        receipt,
+    }))?;
     Ok(Change {
-        puts: puts_of(alloc, tables, call, act)?,
-        removes: Items::new(alloc),
+        puts,
+        removes,
         revision: tables.revision + 1,
-        last_booking: tables.last_booking,
+        last_booking: tables.last_booking + made,
     })
 }
 
-/// The entry of a served act in the journal.
-pub(crate) fn entry_of(
+/// The entry of an act that gives the receipt.
+fn entry_of(
     alloc: Global,
     tables: &Tables,
     pass: u64,
     call: &Call,
     act: &Act,
+    receipt: Receipt,
 ) -> Result<Entry, NoMemory>
-    requires served { IsServed act.now }
-    requires revision { tables.now.revision ≤ revision_limit }
-    ensures { IfOk result (λ entry. entry ≡ entry_of tables.now pass call.now act.now) }
+    requires { IsSound tables.now }
+    ensures { IfOk result (λ entry. entry ≡ record { revision = tables.now.revision + 1; pass = pass; call = call.now; act = act.now; receipt = receipt }) }
 {
     Ok(Entry {
         revision: tables.revision + 1,
         pass,
         call: *call,
         act: act.copy(alloc)?,
-        receipt: receipt_of(act),
+        receipt,
     })
+}
+
+/// What a served change comes to that nothing refuses.
+pub(crate) fn accept(
+    alloc: Global,
+    tables: &Tables,
+    pass: u64,
+    call: &Call,
+    act: &Act,
+) -> Result<Accepted, NoMemory>
+    requires sound { IsSound tables.now }
+    requires served { IsServed act.now }
+    requires placed { IsPlaced tables.now act.now }
+    requires numbers { tables.now.last_booking + length (made_by tables.now act.now) ≤ serial_limit }
+    ensures { IfOk result (λ a. a ≡ record { change = change_of tables.now call.now act.now; entry = entry_of tables.now pass call.now act.now }) }
+{
+    let effect = effect_of(alloc, tables, act)?;
+    let entry = entry_of(alloc, tables, pass, call, act, effect.receipt)?;
+    let change = change_of(tables, call, effect)?;
+    Ok(Accepted { change, entry })
 }

@@ -9,8 +9,8 @@ ghost use Rattle.desk_core.specs.Built.{IsServed, IsBuilt};
 
 use crate::answering::answer;
 use crate::callers::kept_receipt;
-use crate::early::early_refusal;
-use crate::entering::{enter, outcome_of};
+use crate::changing::carry_out;
+use crate::entering::outcome_of;
 use desk_base::{Act, Answer, Call, Command, Entry, Outcome, Tables};
 use std::alloc::Global;
 use std::marker::Model;
@@ -35,10 +35,9 @@ impl Model for Book {
 }
 
 impl Book {
-    /// A book over sound tables without bookings, with an empty journal. It takes no memory.
+    /// A book over sound tables, with an empty journal. It takes no memory.
     pub fn over(alloc: Global, tables: Tables) -> Book
-        requires sound { IsSound tables }
-        requires unbooked { tables.bookings ≡ [] }
+        requires { IsSound tables }
         ensures { result ≡ record { opened = tables; tables = tables; journal = [] } }
     {
         let opened = Snapshot::of(&tables);
@@ -49,7 +48,7 @@ impl Book {
         }
     }
 
-    /// The schedule as it is.
+    /// The schedule as it is. As it is sound, its bookings fit, and each group is booked whole or not at all.
     pub fn tables(&self) -> &Tables
         ensures value { result.now ≡ self.now.tables }
         ensures sound { IsSound result.now }
@@ -75,17 +74,14 @@ impl Book {
     {
         match kept_receipt(&self.tables, call) {
             Some(receipt) => Outcome::Repeated(receipt),
-            None => match early_refusal(&self.tables, self.journal.as_slice(), call, act) {
-                Some(why) => Outcome::Refused(why),
-                None => outcome_of(enter(
-                    alloc,
-                    &mut self.tables,
-                    &mut self.journal,
-                    pass,
-                    call,
-                    act,
-                )),
-            },
+            None => outcome_of(carry_out(
+                alloc,
+                &mut self.tables,
+                &mut self.journal,
+                pass,
+                call,
+                act,
+            )),
         }
     }
 

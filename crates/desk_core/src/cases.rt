@@ -1,122 +1,44 @@
-//! Commands through `step`, one after another, and what they come to.
-ghost use Rattle.std.specs.Prelude.{◌≡◌, [], IfOk};
+//! Commands through `step`, one after another, and what they come to. The book is over the trial tables, and minute
+//! 28,935,840 is Monday 2025-01-06T08:00Z.
+ghost use Rattle.std.specs.Prelude.{IfOk};
 ghost use Rattle.desk_base.specs.Sound.{IsSound};
-ghost use Rattle.desk_core.specs.Built.{CanBePut};
+ghost use Rattle.desk_core.specs.Built.{IsServed};
+
+mod asked;
+mod told;
 
 use crate::Book;
+use asked::{Asked, Pages, Picked, Wanted, change, command_of, unit, zone};
 use desk_base::laws::trial_is_sound;
-use desk_base::{
-    Act, AnyRow, CalendarId, Call, CallNumber, CallerId, Command, Field, GroupId, Items, Kind,
-    Minute, Name, NamedRow, NoMemory, Options, Outcome, Page, Query, Receipt, Refusal, Reply,
-    ResourceId, ResourceRow, SiteId, Table, Tables, UnitId, WorkRow, ZoneId, ZoneRow,
-};
+use desk_base::{Act, CallNumber, Field, NoMemory, Table, Tables};
 use std::alloc::Global;
 use std::process::Abort;
 use std::test::Fail;
+use told::{Given, Told, what_was_told};
 
-/// What a command came to, as far as these cases look.
-#[derive(Clone, Copy, Debug, PartialEq, Eq)]
-enum Told {
-    Put,
-    Repeated,
-    Old(u32),
-    Skipped(u32),
-    Unknown(Table, u32),
-    Bad(Field),
-    Full(Table),
-    EmptyPage,
-    Revision,
-    Other,
-}
+const EIGHT: u32 = 28_935_840;
 
-fn told_of_refusal(refusal: &Refusal) -> Told {
-    match refusal {
-        Refusal::OldNumber(last) => Told::Old(*last),
-        Refusal::SkippedNumber(last) => Told::Skipped(*last),
-        Refusal::UnknownId(key) => Told::Unknown(key.table, key.a),
-        Refusal::BadField(field) => Told::Bad(*field),
-        Refusal::Full(table) => Told::Full(*table),
-        _ => Told::Other,
-    }
-}
+const HALF_PAST_EIGHT: u32 = 28_935_870;
 
-fn told_of_page(page: &Page) -> Told {
-    if page.rows.is_empty() && page.next.is_none() && page.end {
-        Told::EmptyPage
-    } else {
-        Told::Other
-    }
-}
+const NINE: u32 = 28_935_900;
 
-fn what_came_of(outcome: Outcome) -> Told {
-    match &outcome {
-        Outcome::Done(Reply::Change(Receipt::Put)) => Told::Put,
-        Outcome::Done(Reply::Rows(page)) => told_of_page(page),
-        Outcome::Done(Reply::Revision) => Told::Revision,
-        Outcome::Repeated(Receipt::Put) => Told::Repeated,
-        Outcome::Refused(refusal) => told_of_refusal(refusal),
-        _ => Told::Other,
-    }
-}
+const TEN: u32 = 28_935_960;
+
+const ELEVEN: u32 = 28_936_020;
+
+const NOON: u32 = 28_936_080;
+
+const PUT: Told = Told::Done(Given::Put);
+
+/// A command, what it comes to, and the revision after it.
+type Line = (Asked, Told, u64);
 
 fn trial(alloc: Global) -> Result<Tables, NoMemory>
-    ensures sound { IfOk result IsSound }
-    ensures unbooked { IfOk result (λ t. t.bookings ≡ []) }
+    ensures { IfOk result IsSound }
 {
     trial_is_sound();
     let tables = Tables::trial(alloc)?;
     Ok(tables)
-}
-
-fn call(caller: u32, number: u32) -> Result<Call, Fail> {
-    Ok(Call {
-        caller: CallerId::of(caller).ok_or("no caller")?,
-        number: CallNumber::of(number).ok_or("no number")?,
-    })
-}
-
-fn put(alloc: Global, book: &mut Book, by: Call, row: AnyRow) -> Told
-    requires { CanBePut row }
-{
-    let command = Command::Change(by, Act::Put(row));
-    what_came_of(book.step(alloc, 3, &command).outcome)
-}
-
-fn put_unit(alloc: Global, book: &mut Book, by: Call, id: u32, text: &str) -> Result<Told, Fail> {
-    let name = Name::of(alloc, text)?;
-    Ok(put(alloc, book, by, AnyRow::Unit(NamedRow { id, name })))
-}
-
-fn put_zone(
-    alloc: Global,
-    book: &mut Book,
-    by: Call,
-    id: u32,
-    shifts: &[(u32, i32)],
-) -> Result<Told, Fail> {
-    let id = ZoneId::of(id).ok_or("no zone")?;
-    let shifts = Items::from_slice(alloc, shifts)?;
-    let name = Name::of(alloc, "Z")?;
-    Ok(put(alloc, book, by, AnyRow::Zone(ZoneRow { id, name, shifts })))
-}
-
-fn put_work(
-    alloc: Global,
-    book: &mut Book,
-    by: Call,
-    from: u16,
-    to: u16,
-    capacity: u16,
-) -> Result<Told, Fail> {
-    let calendar = CalendarId::of(1).ok_or("no calendar")?;
-    let row = WorkRow {
-        calendar,
-        weekday: 0,
-        from,
-        to,
-        capacity,
-    };
-    Ok(put(alloc, book, by, AnyRow::Work(row)))
 }
 
 /// Lets a book go.
@@ -124,50 +46,353 @@ fn discard(book: Book) {
     let _ = book;
 }
 
-fn numbers(rt: &impl Abort, alloc: Global, book: &mut Book) -> Result<(), Fail> {
-    for number in 1..4 {
-        let told = put_unit(alloc, book, call(7, number)?, number + 1, "North")?;
-        assert_eq!(rt; told, Told::Put);
+fn answer_to(alloc: Global, book: &mut Book, asked: Asked) -> Result<(Told, u64), Fail> {
+    let command = command_of(alloc, asked)?;
+    let answer = book.step(alloc, 3, &command);
+    Ok(what_was_told(&answer))
+}
+
+fn go_through(rt: &impl Abort, alloc: Global, book: &mut Book, lines: &[Line]) -> Result<(), Fail> {
+    for line in lines {
+        let (came, revision) = answer_to(alloc, book, line.0)?;
+        assert_eq!(rt; came, line.1);
+        assert_eq!(rt; revision, line.2);
     }
-    let again = put_unit(alloc, book, call(7, 3)?, 9, "")?;
-    assert_eq!(rt; again, Told::Repeated);
-    let old = put_unit(alloc, book, call(7, 2)?, 9, "N")?;
-    assert_eq!(rt; old, Told::Old(3));
-    let skipped = put_unit(alloc, book, call(7, 5)?, 9, "N")?;
-    assert_eq!(rt; skipped, Told::Skipped(3));
-    let second = put_unit(alloc, book, call(8, 1)?, 2, "South")?;
-    assert_eq!(rt; second, Told::Put);
-    assert_eq!(rt; book.tables().revision, 4);
-    assert_eq!(rt; book.tables().units.len(), 4);
-    assert_eq!(rt; book.journal().len(), 4);
     Ok(())
 }
 
-#[test]
-fn a_number_acts_once(rt: HostRuntime) -> Result<(), Fail> {
-    let alloc = rt.alloc();
-    assert!(rt; CallNumber::of(0).is_none());
+/// Goes through the lines over a book of the trial tables.
+fn go_through_trial(rt: &impl Abort, alloc: Global, lines: &[Line]) -> Result<(), Fail> {
     let mut book = Book::over(alloc, trial(alloc)?);
-    let done = numbers(&rt, alloc, &mut book);
+    let done = go_through(rt, alloc, &mut book, lines);
     discard(book);
     done
 }
 
+fn by(number: u32, wanted: Wanted) -> Asked {
+    Asked::Change(number, wanted)
+}
+
+/// Group 1 is booked at the start on a resource.
+fn book_visit(number: u32, start: u32, resource: u32) -> Asked {
+    by(number, Wanted::Book(1, start, Picked::One(resource)))
+}
+
+/// A work row of calendar 1 on Mondays.
+fn work(from: u16, to: u16, capacity: u16) -> Asked {
+    by(1, Wanted::Work(1, 0, from, to, capacity))
+}
+
+#[test]
+fn touching_bookings_fit(rt: HostRuntime) -> Result<(), Fail> {
+    let lines = [
+        (by(1, Wanted::Group(2, EIGHT, NOON, 60)), PUT, 1),
+        (
+            book_visit(2, EIGHT, 1),
+            Told::Done(Given::Booked(1, 1, 60)),
+            2,
+        ),
+        (
+            by(3, Wanted::Book(2, NINE, Picked::One(1))),
+            Told::Done(Given::Booked(2, 1, 60)),
+            3,
+        ),
+    ];
+    go_through_trial(&rt, rt.alloc(), &lines)
+}
+
+#[test]
+fn bookings_that_meet_conflict(rt: HostRuntime) -> Result<(), Fail> {
+    let lines = [
+        (
+            book_visit(1, EIGHT, 1),
+            Told::Done(Given::Booked(1, 1, 60)),
+            1,
+        ),
+        (by(2, Wanted::Group(2, EIGHT, NOON, 30)), PUT, 2),
+        (
+            by(3, Wanted::Book(2, HALF_PAST_EIGHT, Picked::One(1))),
+            Told::Conflict {
+                resource: 1,
+                minute: HALF_PAST_EIGHT,
+                capacity: 1,
+                standing: 1,
+                asked: 1,
+                booking: 1,
+            },
+            2,
+        ),
+        (
+            by(3, Wanted::Book(2, NINE, Picked::One(1))),
+            Told::Done(Given::Booked(2, 1, 60)),
+            3,
+        ),
+        (book_visit(4, TEN, 2), Told::NotOpen(1), 3),
+        (
+            by(4, Wanted::Group(1, EIGHT, NOON, 60)),
+            Told::NotOpen(1),
+            3,
+        ),
+    ];
+    go_through_trial(&rt, rt.alloc(), &lines)
+}
+
+#[test]
+fn what_cannot_be_booked_changes_nothing(rt: HostRuntime) -> Result<(), Fail> {
+    let gap = Told::Conflict {
+        resource: 3,
+        minute: NINE,
+        capacity: 0,
+        standing: 0,
+        asked: 1,
+        booking: 0,
+    };
+    let two = by(1, Wanted::Book(1, NINE, Picked::Two(1, 2)));
+    let none = by(1, Wanted::Book(1, NINE, Picked::LeftOut));
+    let unknown = by(1, Wanted::Book(9, NINE, Picked::One(1)));
+    let lines = [
+        (book_visit(1, NINE, 3), gap, 0),
+        (
+            book_visit(1, HALF_PAST_EIGHT, 1),
+            Told::OffGrid(HALF_PAST_EIGHT),
+            0,
+        ),
+        (two, Told::BadShape(1), 0),
+        (none, Told::BadShape(0), 0),
+        (
+            book_visit(1, NINE, 99),
+            Told::Unknown(Table::Resource, 99),
+            0,
+        ),
+        (unknown, Told::Unknown(Table::Group, 9), 0),
+    ];
+    go_through_trial(&rt, rt.alloc(), &lines)
+}
+
+#[test]
+fn booking_numbers_go_on_after_a_cancelling(rt: HostRuntime) -> Result<(), Fail> {
+    let lines = [
+        (by(1, Wanted::Cancel(1)), Told::NotBooked(1), 0),
+        (
+            book_visit(1, EIGHT, 1),
+            Told::Done(Given::Booked(1, 1, 60)),
+            1,
+        ),
+        (
+            by(2, Wanted::Cancel(1)),
+            Told::Done(Given::Cancelled(1, 60)),
+            2,
+        ),
+        (by(3, Wanted::Cancel(1)), Told::NotBooked(1), 2),
+        (
+            by(2, Wanted::Cancel(1)),
+            Told::Repeated(Given::Cancelled(1, 60)),
+            2,
+        ),
+        (
+            book_visit(3, EIGHT, 1),
+            Told::Done(Given::Booked(2, 1, 60)),
+            3,
+        ),
+    ];
+    go_through_trial(&rt, rt.alloc(), &lines)
+}
+
+#[test]
+fn work_is_not_shortened_under_a_booking(rt: HostRuntime) -> Result<(), Fail> {
+    let shortened = Told::Conflict {
+        resource: 1,
+        minute: HALF_PAST_EIGHT,
+        capacity: 0,
+        standing: 1,
+        asked: 0,
+        booking: 1,
+    };
+    let lines = [
+        (
+            book_visit(1, EIGHT, 1),
+            Told::Done(Given::Booked(1, 1, 60)),
+            1,
+        ),
+        (by(2, Wanted::Work(1, 0, 480, 510, 1)), shortened, 1),
+        (by(2, Wanted::Work(1, 0, 480, 540, 1)), PUT, 2),
+        (
+            by(3, Wanted::Resource(1, 2, 1)),
+            Told::Conflict {
+                resource: 1,
+                minute: EIGHT,
+                capacity: 0,
+                standing: 1,
+                asked: 0,
+                booking: 1,
+            },
+            2,
+        ),
+    ];
+    go_through_trial(&rt, rt.alloc(), &lines)
+}
+
+/// Where the last booking ends.
+fn last_end(book: &Book) -> u32 {
+    match book.tables().bookings.as_slice() {
+        [.., last] => last.to.get(),
+        [] => 0,
+    }
+}
+
+#[test]
+fn a_booking_may_end_with_the_horizon(rt: HostRuntime) -> Result<(), Fail> {
+    let start = 68_374_020;
+    let end = 68_374_080;
+    let lines = [
+        (by(1, Wanted::Calendar(3)), PUT, 1),
+        (by(2, Wanted::Work(3, 3, 1380, 1440, 1)), PUT, 2),
+        (by(3, Wanted::Resource(4, 3, 1)), PUT, 3),
+        (
+            by(4, Wanted::Group(2, start, start, 60)),
+            Told::Bad(Field::To),
+            3,
+        ),
+        (by(4, Wanted::Group(2, start, end, 60)), PUT, 4),
+        (
+            by(5, Wanted::Book(2, start, Picked::One(4))),
+            Told::Done(Given::Booked(1, 1, 60)),
+            5,
+        ),
+    ];
+    let alloc = rt.alloc();
+    let mut book = Book::over(alloc, trial(alloc)?);
+    let done = go_through(&rt, alloc, &mut book, &lines);
+    let last = last_end(&book);
+    discard(book);
+    assert_eq!(&rt; last, end);
+    done
+}
+
+#[test]
+fn a_number_acts_once(rt: HostRuntime) -> Result<(), Fail> {
+    assert!(&rt; CallNumber::of(0).is_none());
+    let lines = [
+        (by(1, Wanted::Unit(2)), PUT, 1),
+        (by(2, Wanted::Unit(3)), PUT, 2),
+        (by(3, Wanted::Unit(4)), PUT, 3),
+        (by(3, Wanted::Unit(0)), Told::Repeated(Given::Put), 3),
+        (
+            book_visit(4, EIGHT, 1),
+            Told::Done(Given::Booked(1, 1, 60)),
+            4,
+        ),
+        (
+            book_visit(4, EIGHT, 1),
+            Told::Repeated(Given::Booked(1, 1, 60)),
+            4,
+        ),
+        (by(3, Wanted::Unit(5)), Told::Old(4), 4),
+        (by(6, Wanted::Unit(5)), Told::Skipped(4), 4),
+    ];
+    let alloc = rt.alloc();
+    let mut book = Book::over(alloc, trial(alloc)?);
+    let done = go_through(&rt, alloc, &mut book, &lines);
+    let bookings = book.tables().bookings.len();
+    let units = book.tables().units.len();
+    let entries = book.journal().len();
+    discard(book);
+    assert_eq!(&rt; bookings, 1);
+    assert_eq!(&rt; units, 4);
+    assert_eq!(&rt; entries, 4);
+    done
+}
+
+/// Rows of group 1 after a cursor.
+fn after(revision: u64, start: u32, pick: u32, latest: bool) -> Asked {
+    Asked::Rows(Pages {
+        group: 1,
+        from: None,
+        after: Some((revision, start, pick)),
+        latest,
+        limit: 4,
+    })
+}
+
+#[test]
+fn cursors_show_their_revision(rt: HostRuntime) -> Result<(), Fail> {
+    let rows = [(TEN, 1), (TEN, 2), (TEN, 3), (ELEVEN, 1)];
+    let page = Told::Page(rows, 4, (ELEVEN, 1), false);
+    let lines = [
+        (by(1, Wanted::Unit(2)), PUT, 1),
+        (by(2, Wanted::Unit(3)), PUT, 2),
+        (after(0, NINE, 2, false), Told::Moved(0, 2), 2),
+        (after(0, NINE, 2, true), page, 2),
+        (after(2, NINE, 3, false), page, 2),
+        (after(2, NINE + 1, 9, false), page, 2),
+    ];
+    go_through_trial(&rt, rt.alloc(), &lines)
+}
+
+/// The first fifty rows of a group.
+fn fifty(group: u32, from: Option<u32>) -> Asked {
+    Asked::Rows(Pages {
+        group,
+        from,
+        after: None,
+        latest: false,
+        limit: 50,
+    })
+}
+
+#[test]
+fn where_nothing_fits_the_page_is_empty(rt: HostRuntime) -> Result<(), Fail> {
+    let empty = Told::Page([(0, 0), (0, 0), (0, 0), (0, 0)], 0, (0, 0), true);
+    let lines = [
+        (by(1, Wanted::Group(2, EIGHT, 28_935_885, 60)), PUT, 1),
+        (fifty(2, None), empty, 1),
+        (fifty(1, Some(NOON)), empty, 1),
+        (fifty(9, None), Told::Unknown(Table::Group, 9), 1),
+        (Asked::Revision, Told::Revision, 1),
+    ];
+    go_through_trial(&rt, rt.alloc(), &lines)
+}
+
+#[test]
+fn bad_fields_are_named_after_what_is_not_there(rt: HostRuntime) -> Result<(), Fail> {
+    let lines = [
+        (work(720, 720, 1), Told::Bad(Field::To), 0),
+        (work(800, 720, 1), Told::Bad(Field::To), 0),
+        (work(720, 800, 0), Told::Bad(Field::Capacity), 0),
+        (work(720, 800, 1001), Told::Bad(Field::Capacity), 0),
+        (work(700, 800, 1), Told::Bad(Field::Overlap), 0),
+        (
+            by(1, Wanted::Resource(4, 1, 9)),
+            Told::Unknown(Table::Unit, 9),
+            0,
+        ),
+        (work(480, 700, 2), PUT, 1),
+    ];
+    go_through_trial(&rt, rt.alloc(), &lines)
+}
+
+fn tell(alloc: Global, book: &mut Book, number: u32, act: Act) -> Result<Told, Fail>
+    requires { IsServed act }
+{
+    let command = change(7, number, act)?;
+    let answer = book.step(alloc, 3, &command);
+    Ok(what_was_told(&answer).0)
+}
+
 fn zones(rt: &impl Abort, alloc: Global, book: &mut Book) -> Result<(), Fail> {
-    let bare = put_zone(alloc, book, call(7, 1)?, 2, &[])?;
+    let bare = tell(alloc, book, 1, zone(alloc, 2, &[])?)?;
     assert_eq!(rt; bare, Told::Bad(Field::Shifts));
-    let late = put_zone(alloc, book, call(7, 1)?, 2, &[(15_778_081, 0)])?;
+    let late = tell(alloc, book, 1, zone(alloc, 2, &[(15_778_081, 0)])?)?;
     assert_eq!(rt; late, Told::Bad(Field::Shifts));
     for number in 1..64 {
-        let shifts = [(15_778_080, 0)];
-        let told = put_zone(alloc, book, call(7, number)?, number + 1, &shifts)?;
-        assert_eq!(rt; told, Told::Put);
+        let act = zone(alloc, number + 1, &[(15_778_080, 0)])?;
+        let told = tell(alloc, book, number, act)?;
+        assert_eq!(rt; told, PUT);
     }
-    let more = put_zone(alloc, book, call(7, 64)?, 65, &[(15_778_080, 0)])?;
+    let more = tell(alloc, book, 64, zone(alloc, 65, &[(15_778_080, 0)])?)?;
     assert_eq!(rt; more, Told::Full(Table::Zone));
-    let own = put_zone(alloc, book, call(7, 64)?, 64, &[(15_778_080, 60)])?;
-    assert_eq!(rt; own, Told::Put);
-    assert_eq!(rt; book.tables().zones.len(), 64);
+    let own = tell(alloc, book, 64, zone(alloc, 64, &[(15_778_080, 60)])?)?;
+    assert_eq!(rt; own, PUT);
     Ok(())
 }
 
@@ -184,11 +409,11 @@ fn names(rt: &impl Abort, alloc: Global, book: &mut Book) -> Result<(), Fail> {
     let sixty = "012345678901234567890123456789012345678901234567890123456789";
     let more = "0123456789012345678901234567890123456789012345678901234567890";
     for text in ["", more, "a\tb"] {
-        let told = put_unit(alloc, book, call(7, 1)?, 2, text)?;
+        let told = tell(alloc, book, 1, unit(alloc, 2, text)?)?;
         assert_eq!(rt; told, Told::Bad(Field::Name));
     }
-    let told = put_unit(alloc, book, call(7, 1)?, 2, sixty)?;
-    assert_eq!(rt; told, Told::Put);
+    let told = tell(alloc, book, 1, unit(alloc, 2, sixty)?)?;
+    assert_eq!(rt; told, PUT);
     Ok(())
 }
 
@@ -199,85 +424,4 @@ fn names_have_1_to_60_bytes(rt: HostRuntime) -> Result<(), Fail> {
     let done = names(&rt, alloc, &mut book);
     discard(book);
     done
-}
-
-fn works(rt: &impl Abort, alloc: Global, book: &mut Book) -> Result<(), Fail> {
-    let cases = [
-        (720, 720, 1, Told::Bad(Field::To)),
-        (800, 720, 1, Told::Bad(Field::To)),
-        (720, 800, 0, Told::Bad(Field::Capacity)),
-        (720, 800, 1001, Told::Bad(Field::Capacity)),
-        (700, 800, 1, Told::Bad(Field::Overlap)),
-        (480, 700, 2, Told::Put),
-    ];
-    for (from, to, capacity, want) in cases {
-        let told = put_work(alloc, book, call(7, 1)?, from, to, capacity)?;
-        assert_eq!(rt; told, want);
-    }
-    assert_eq!(rt; book.tables().works.len(), 2);
-    Ok(())
-}
-
-#[test]
-fn work_rows_do_not_meet(rt: HostRuntime) -> Result<(), Fail> {
-    let alloc = rt.alloc();
-    let mut book = Book::over(alloc, trial(alloc)?);
-    let done = works(&rt, alloc, &mut book);
-    discard(book);
-    done
-}
-
-fn put_resource_of_unit_9(alloc: Global, book: &mut Book) -> Result<Told, Fail> {
-    let id = ResourceId::of(4).ok_or("no resource")?;
-    let unit = UnitId::of(9).ok_or("no unit")?;
-    let site = SiteId::of(1).ok_or("no site")?;
-    let by = call(7, 1)?;
-    let row = ResourceRow {
-        id,
-        name: Name::of(alloc, "")?,
-        kind: Kind::Generic,
-        calendar: None,
-        unit,
-        site,
-    };
-    Ok(put(alloc, book, by, AnyRow::Resource(row)))
-}
-
-#[test]
-fn what_is_not_there_comes_before_bad_fields(rt: HostRuntime) -> Result<(), Fail> {
-    let alloc = rt.alloc();
-    let mut book = Book::over(alloc, trial(alloc)?);
-    let told = put_resource_of_unit_9(alloc, &mut book);
-    discard(book);
-    assert_eq!(rt; told?, Told::Unknown(Table::Unit, 9));
-    Ok(())
-}
-
-fn ask(alloc: Global, book: &mut Book, query: Query) -> Told {
-    let command = Command::Ask(query);
-    what_came_of(book.step(alloc, 3, &command).outcome)
-}
-
-#[test]
-fn a_search_from_noon_on_is_empty(rt: HostRuntime) -> Result<(), Fail> {
-    let alloc = rt.alloc();
-    let group = GroupId::of(1).ok_or("no group")?;
-    let noon = Minute::of(28_936_080);
-    let rows = Query::Rows {
-        group,
-        options: Options {
-            from: noon,
-            to: None,
-        },
-        after: None,
-        latest: false,
-        limit: 50,
-    };
-    let mut book = Book::over(alloc, trial(alloc)?);
-    let page = ask(alloc, &mut book, rows);
-    let revision = ask(alloc, &mut book, Query::Revision);
-    discard(book);
-    assert_eq!(rt; page, Told::EmptyPage);
-    assert_eq!(rt; revision, Told::Revision);
-    Ok(())
 }

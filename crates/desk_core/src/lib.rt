@@ -7,9 +7,15 @@ mod book;
 mod callers;
 #[cfg(test)]
 mod cases;
+mod changing;
+mod citing;
 mod early;
+mod effects;
 mod entering;
+mod group_bookings;
 mod group_rules;
+mod new_bookings;
+mod row_places;
 mod row_rules;
 
 pub use book::Book;

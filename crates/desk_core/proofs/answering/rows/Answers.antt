@@ -1,5 +1,5 @@
 use Rattle.std.proofs.Common.{Some, ap, sym, inl, ◌∙◌}
-use Rattle.desk_core.proofs.GroupsThere.{known_page, unknown_page, found_group, page_answers, limit_passes}
+use Rattle.desk_core.proofs.GroupsThere.{known_page, unknown_page, found_group, page_answers}
 use Rattle.desk_core.proofs.answering.rows.Goals as goal
 
 pub page_of-requires-clause-there : goal.page_of-requires-clause-there

@@ -1,0 +1,137 @@
+//! Why a table has no place for the rows of a change: the first table that would pass its limit.
+ghost use Rattle.std.specs.Prelude.{◌≡◌, ◌+◌, ◌<◌, ◌^◌, ◌∷◌, [], length, nat_le, option_map};
+ghost use Rattle.desk_base.specs.Keys.{id_key};
+ghost use Rattle.desk_base.specs.Refusing.{booking_places, has_place, picked, refused_place, with_caller_place};
+ghost use Rattle.desk_base.specs.Rules.{first_broken};
+ghost use Rattle.desk_base.specs.Sound.{IsSound};
+ghost use Rattle.desk_base.specs.TableLimits.{limit_of};
+ghost use Rattle.desk_base.specs.declared.refusals.Refusal.TheVariants.{Full};
+ghost use Rattle.desk_base.specs.declared.tables.Table.TheVariants.{Booking, BookingNumbers, Caller};
+ghost use Rattle.desk_core.specs.Built.{IsServed};
+
+use desk_base::{Act, Call, CallerId, Key, Refusal, ResourceId, Table, Tables};
+
+/// How many rows a table may have.
+fn limit_of(table: Table) -> usize
+    ensures { result ≡ limit_of table }
+{
+    match table {
+        Table::Zone => 64,
+        Table::Calendar => 2_000,
+        Table::Work => 40_000,
+        Table::Break => 40_000,
+        Table::Day => 100_000,
+        Table::Off => 100_000,
+        Table::Unit => 2_000,
+        Table::Site => 2_000,
+        Table::Role => 2_000,
+        Table::Characteristic => 2_000,
+        Table::Territory => 2_000,
+        Table::Resource => 2_000,
+        Table::HasRole => 40_000,
+        Table::HasCharacteristic => 40_000,
+        Table::HasTerritory => 40_000,
+        Table::Member => 10_000,
+        Table::Group => 50_000,
+        Table::Booking => 200_000,
+        Table::Caller => 10_000,
+        Table::BookingNumbers => 4_000_000_000,
+    }
+}
+
+/// Whether a row of this key has a place in its table: that of the row that stands under it, or one more.
+fn has_place(tables: &Tables, key: &Key) -> bool
+    requires { IsSound tables.now }
+    ensures { result ≡ has_place tables.now key.now }
+{
+    tables.contains(key) || tables.len_of(key.table) < limit_of(key.table)
+}
+
+/// Why there is no place for the caller's row.
+fn refused_caller(tables: &Tables, caller: CallerId) -> Option<Refusal>
+    requires { IsSound tables.now }
+    ensures { result ≡ option_map Full (first_broken ((has_place tables.now (id_key Caller caller), Caller) ∷ [])) }
+{
+    if has_place(tables, &Key::of_id(Table::Caller, caller.get())) {
+        None
+    } else {
+        Some(Refusal::Full(Table::Caller))
+    }
+}
+
+/// Why there is no place for a row of this key, or for the caller's.
+fn refused_row(tables: &Tables, caller: CallerId, key: &Key) -> Option<Refusal>
+    requires { IsSound tables.now }
+    ensures { result ≡ option_map Full (first_broken ((has_place tables.now key.now, key.now.table) ∷ (has_place tables.now (id_key Caller caller), Caller) ∷ [])) }
+{
+    if has_place(tables, key) {
+        refused_caller(tables, caller)
+    } else {
+        Some(Refusal::Full(key.table))
+    }
+}
+
+/// How many resources are picked.
+fn picked_len(picks: &[Option<ResourceId>]) -> usize
+    ensures count { result ≡ length (picked picks.now) }
+    ensures within { result < 2 ^ 63 }
+{
+    picks.iter().filter(|pick| pick.is_some()).count()
+}
+
+/// Whether so many new bookings have a place among those that stand.
+fn has_booking_places(tables: &Tables, new: usize) -> bool
+    requires sound { IsSound tables.now }
+    requires within { new < 2 ^ 63 }
+    ensures { result ≡ nat_le (length tables.now.bookings + new) (limit_of Booking) }
+{
+    tables.bookings.len() + new <= limit_of(Table::Booking)
+}
+
+/// Whether so many new bookings have numbers.
+fn has_booking_numbers(tables: &Tables, new: usize) -> bool
+    requires { new < 2 ^ 63 }
+    ensures { result ≡ nat_le (tables.now.last_booking + new) (limit_of BookingNumbers) }
+{
+    tables.last_booking as usize + new <= limit_of(Table::BookingNumbers)
+}
+
+/// Why there is no place for a booking of each picked resource, for the caller's row, or for the numbers of the bookings.
+fn refused_bookings(
+    tables: &Tables,
+    caller: CallerId,
+    picks: &[Option<ResourceId>],
+) -> Option<Refusal>
+    requires { IsSound tables.now }
+    ensures { result ≡ option_map Full (first_broken (with_caller_place (has_place tables.now (id_key Caller caller), Caller) (booking_places tables.now (length tables.now.bookings) (length (picked picks.now))))) }
+{
+    let new = picked_len(picks);
+    if !has_booking_places(tables, new) {
+        return Some(Refusal::Full(Table::Booking));
+    }
+    if !has_place(tables, &Key::of_id(Table::Caller, caller.get())) {
+        return Some(Refusal::Full(Table::Caller));
+    }
+    if !has_booking_numbers(tables, new) {
+        return Some(Refusal::Full(Table::BookingNumbers));
+    }
+    None
+}
+
+/// Why a table has no place for what the act puts and for the caller's row.
+pub(crate) fn refused_place(tables: &Tables, call: &Call, act: &Act) -> Option<Refusal>
+    requires sound { IsSound tables.now }
+    requires served { IsServed act.now }
+    ensures { result ≡ refused_place tables.now call.now act.now }
+{
+    let caller = call.caller;
+    match act {
+        Act::Put(row) => refused_row(tables, caller, &row.key()),
+        Act::PutGroup(group) => {
+            refused_row(tables, caller, &Key::of_id(Table::Group, group.id.get()))
+        }
+        Act::BookGroup { picks, .. } => refused_bookings(tables, caller, picks.as_slice()),
+        Act::CancelGroup(_) => refused_caller(tables, caller),
+        _ => unreachable!(),
+    }
+}
