@@ -1,7 +1,7 @@
 -- Turns of one state, as turns of another.
 use Rattle.std.proofs.Common.{inl, inr, ap}
-use Rattle.desk_batch.specs.declared.asked.Command.{Command as Asked}
-use Rattle.desk_batch.specs.declared.asked.Answer.{Answer}
+use Rattle.desk_base.specs.declared.answers.Command.{Command as Asked}
+use Rattle.desk_base.specs.declared.answers.Answer.{Answer}
 use Rattle.desk_wire.specs.declared.rules.Request.{Request}
 use Rattle.desk_wire.specs.declared.responses.Response.{Response}
 use Rattle.desk_batch.specs.declared.requests.Routed.{Routed}

@@ -1,17 +1,15 @@
--- Numbers, dates, cursors and targets as texts.
-mod CursorLemmas
-mod CursorTexts
-mod Dates
-mod DecimalLemmas
-mod Floats
-mod PagingLemmas
+-- Queries and targets as texts.
 mod PieceLemmas
-pub mod Reading
+mod PagingLemmas
 mod TargetLemmas
+mod ReadingLemmas
+mod Served
+mod TurnLemmas
 -- Conversations.
 pub mod SessionSteps
 pub mod Carried
 pub mod CarriedTurns
 pub mod Completeness
-pub mod StepLemmas
+pub mod EmptySound
+pub mod Revisions
 pub mod ShownLemmas

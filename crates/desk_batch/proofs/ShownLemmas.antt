@@ -1,70 +1,140 @@
--- The pages that a conversation shows of one search join.
-use Rattle.std.proofs.Common.{◌≡◌, ◌==◌, ℕ, ◌≤◌, List, [], ◌∷◌, map, Option, Some, None, inl, inr, refl, ap, ◌∙◌, subst}
-use Rattle.desk_base.specs.Page.{IsPage, AreResumed}
-use Rattle.desk_base.specs.Trial.{trial}
+-- The pages that a conversation shows of one search over one revision join.
+use Rattle.std.proofs.Common.{◌≡◌, ◌==◌, ℕ, ◌≤◌, Bool, true, false, ◌&&◌, nat_le, List, [], ◌∷◌, map, Option, Some, None, inl, inr, refl, sym, ap, ◌∙◌, subst, arith, Contains}
+use Rattle.std.proofs.lemmas.Bool.Decides.{nat_tests}
+use Rattle.std.specs.Prelude.{find, if◌then◌else◌}
+use Rattle.std.specs.Option.{option_or}
 use Rattle.desk_base.specs.declared.tables.Tables.{Tables}
 use Rattle.desk_base.specs.declared.group_rows.GroupRow.{GroupRow}
 use Rattle.desk_base.specs.declared.searches.Page.{Page}
 use Rattle.desk_base.specs.declared.searches.Position.{Position}
-use Rattle.desk_batch.specs.declared.asked.Outcome.{Outcome}
+use Rattle.desk_base.specs.declared.searches.Options.{Options}
+use Rattle.desk_base.specs.Groups.{group_of}
+use Rattle.desk_base.specs.Limits.{page_limit}
+use Rattle.desk_base.specs.Page.{IsPage, AreResumed}
+use Rattle.desk_base.specs.Sound.{IsSound}
+use Rattle.desk_base.specs.Steps.{IsStep, IsTurn, IsAnswer, place_of, refused_limit, refused_page}
+use Rattle.desk_base.specs.declared.changes.Entry.{Entry}
+use Rattle.desk_base.specs.declared.searches.Cursor.{Cursor}
+use Rattle.desk_base.specs.declared.rules.Field.TheVariants.{Limit}
+use Rattle.desk_base.specs.declared.refusals.Refusal.{Refusal}
+use Rattle.desk_base.specs.declared.refusals.Refusal.TheVariants.{BadField}
+use Rattle.desk_base.specs.declared.answers.Command.{Command as Asked}
+use Rattle.desk_base.specs.declared.answers.Command.TheVariants.{Ask}
+use Rattle.desk_base.specs.declared.answers.Query.TheVariants.{Rows as RowsOf}
+use Rattle.desk_base.specs.declared.answers.Outcome.{Outcome}
+use Rattle.desk_base.specs.declared.answers.Outcome.TheVariants.{Done, NoMemory}
+use Rattle.desk_base.specs.declared.answers.Reply.TheVariants.{Rows}
+use Rattle.desk_base.proofs.Members.{contains_from_in}
 use Rattle.desk_base.proofs.Pages.{pages_join}
 use Rattle.desk_base.proofs.Shapes.{sound_group}
-use Rattle.desk_base.proofs.TrialSound.{trial_sound}
+use Rattle.desk_base.proofs.Tests.{find_cases, and_left}
+use Rattle.desk_core.specs.Books.{BookState}
 use Rattle.desk_wire.specs.declared.rules.Request.{Request}
 use Rattle.desk_wire.specs.declared.responses.Response.{Response}
 use Rattle.desk_batch.specs.declared.requests.Routed.{Routed}
 use Rattle.desk_batch.specs.declared.requests.Routed.TheVariants.{Command, Refused}
+use Rattle.desk_batch.specs.declared.words.Store.{Store}
 use Rattle.desk_batch.specs.Exchanges.{Exchanged, TurnOf}
-use Rattle.desk_batch.specs.Shown.{Taken, Told, exchange_of, IsTold, AreTold, ShowsPage, ShowPages}
+use Rattle.desk_batch.specs.Shown.{Taken, Told, Search, exchange_of, IsTold, AreTold, HasStood, ShowsPage, ShowsTo, ShowPages}
 use Rattle.desk_batch.specs.Requesting.{Reads}
-use Rattle.desk_batch.specs.Runs.{OwnTurn, JoinsPages}
+use Rattle.desk_batch.specs.Runs.{JoinsPages}
 use Rattle.desk_batch.specs.Sessions.{Exchange, Turns}
-use Rattle.desk_batch.specs.Steps.{IsAnswer, IsOfId, IsOfGroup, anywhere, group_of}
-use Rattle.desk_batch.proofs.StepLemmas.{contains_found, page_limits}
+use Rattle.desk_batch.specs.Turns.{opened_over, OwnTurn}
+use Rattle.desk_batch.specs.Words.{tables_of}
+use Rattle.desk_batch.proofs.EmptySound.{store_sound}
+use Rattle.desk_batch.proofs.Revisions.{same_tables, sound_stood}
 
--- one exchange is told by its turn, and leaves the tables
-told_one : (t s u : Tables) (routed : Routed) (q : Request) (r : Response) → s ≡ t → Reads q routed → TurnOf OwnTurn routed s q r u
-    → (turn : Option Taken) × IsTold t turn q r × (u ≡ t)
-told_one t s u (Refused why) q r e reads x = (None, (why, reads, x.0), x.1 ∙ e)
-told_one t s u (Command command) q r e reads x =
-    (Some (record { command = command; answer = x.0 }), (reads, subst (λ v. IsAnswer v command x.0) e x.1.0, x.2), x.1.1 ∙ e)
+-- ---- each exchange is told by its turn
 
--- all exchanges of a conversation are
-told_of : (t s : Tables) (xs : List Exchange) (last : Tables) → s ≡ t → Turns (Exchanged OwnTurn) s xs last
-    → (told : List Told) × (map exchange_of told ≡ xs) × AreTold t told
-told_of t s [] last e h = ([], refl, tt)
-told_of t s (x ∷ xs) last e h =
-    let one = told_one t s h.0 h.1.0 x.request x.response e h.1.1 h.1.2 in
-    let rest = told_of t h.0 xs last one.2 h.2 in
-    (record { request = x.request; turn = one.0; response = x.response } ∷ rest.0, ap (λ l. x ∷ l) rest.1, (one.1, rest.2))
+told_one : (s u : BookState) (routed : Routed) (q : Request) (r : Response) → Reads q routed → TurnOf OwnTurn routed s q r u → (turn : Option Taken) × IsTold s turn q r u
+told_one s u (Refused why) q r reads x = (None, (why, reads, x.0, x.1))
+told_one s u (Command command) q r reads x = (Some (record { command = command; answer = x.0 }), (reads, x.1, x.2))
 
--- a page that a turn shows is the page of the search
-shown : (t : Tables) (id : ℕ) (g : GroupRow) → group_of t id ≡ Some g → (after : Option Position) (page : Page) (turn : Option Taken) (q : Request) (r : Response)
-    → IsTold t turn q r → ShowsPage id after page turn → (limit : ℕ) × (1 ≤ limit) × IsPage t g anywhere after limit page
-shown t id g e after page None q r told s = absurd s
-shown t id g e after page (Some x) q r told (cursor, limit, asked, place, done) =
-    let answer = subst (λ c. IsAnswer t c x.answer) asked told.1 in
-    let of_group = subst (λ (o : Option GroupRow). IsOfId t id cursor limit o x.answer.outcome) e answer.1 in
-    let page_is = subst (λ (o : Outcome). IsOfGroup t cursor limit g o) done of_group in
-    (limit, (page_limits t.revision cursor limit page_is.0).0, subst (λ (f : Option Position). IsPage t g anywhere f limit page) place page_is.1)
+told_of : (s : BookState) (xs : List Exchange) (last : BookState) → Turns (Exchanged OwnTurn) s xs last → (told : List Told) × (map exchange_of told ≡ xs) × AreTold s told
+told_of s [] last h = ([], refl, tt)
+told_of s (x ∷ xs) last h =
+    let one = told_one s h.0 h.1.0 x.request x.response h.1.1 h.1.2 in
+    let rest = told_of h.0 xs last h.2 in
+    (record { request = x.request; turn = one.0; response = x.response; after = h.0 } ∷ rest.0, ap (λ l. x ∷ l) rest.1, (one.1, rest.2))
 
--- the pages that are shown resume one another
-resumed : (t : Tables) (id : ℕ) (g : GroupRow) → group_of t id ≡ Some g → (after : Option Position) (xs : List Told) (pages : List Page)
-    → AreTold t xs → ShowPages id after xs pages → AreResumed t g anywhere after pages
-resumed t id g e after xs [] a s = tt
-resumed t id g e after [] (page ∷ pages) a s = absurd s
-resumed t id g e after (x ∷ xs) (page ∷ pages) a (inl s) =
-    (shown t id g e after page x.turn x.request x.response a.0 s.0, resumed t id g e page.next xs pages a.1 s.1)
-resumed t id g e after (x ∷ xs) (page ∷ pages) a (inr s) = resumed t id g e after xs (page ∷ pages) a.1 s
+-- ---- a page that is shown is the page of its search
 
--- so they join
-pub joins_pages : (xs : List Exchange) (last : Tables) → Turns (Exchanged OwnTurn) trial xs last → JoinsPages xs
-joins_pages xs last h =
-    let told = told_of trial trial xs last refl h in (
+first_passes : (a b : Option Refusal) → option_or a b ≡ None → (a ≡ None) × (b ≡ None)
+first_passes None b e = (refl, e)
+first_passes (Some why) b e = absurd (cc)
+
+in_range : (limit : ℕ) (b : Bool) → (nat_le 1 limit && nat_le limit page_limit) ≡ b → (if b then None else Some (BadField Limit)) ≡ None → 1 ≤ limit
+in_range limit true h e = let low = and_left (nat_le 1 limit) (nat_le limit page_limit) h in grind (arith, nat_tests)
+in_range limit false h e = let f : Some (BadField Limit) ≡ None = e in absurd (cc)
+
+some_limit : (limit : ℕ) → refused_limit limit ≡ None → 1 ≤ limit
+some_limit limit e = in_range limit (nat_le 1 limit && nat_le limit page_limit) refl e
+
+-- the page of the group that stands there, with a limit of some rows
+answer_is : (t : Tables) (g : GroupRow) (group : ℕ) (o : Options) (cursor : Option Cursor) (latest : Bool) (limit : ℕ) (page : Page) → group_of t group ≡ Some g
+    → IsAnswer t (RowsOf group o cursor latest limit) (Done (Rows page)) → (1 ≤ limit) × IsPage t g o (place_of cursor) limit page
+answer_is t g group o cursor latest limit page there (passes, (h, found, is)) =
+    let some : Some h ≡ Some g = sym found ∙ there in
+    let same : h ≡ g = cc in
+    (some_limit limit (first_passes _ _ (first_passes _ _ passes).1).0, subst (λ (x : GroupRow). IsPage t x o (place_of cursor) limit page) same is)
+
+turn_is : (t : Tables) (journal : List Entry) (u : Tables) (journal' : List Entry) (g : GroupRow) (group : ℕ) (o : Options) (cursor : Option Cursor) (latest : Bool) (limit : ℕ) (page : Page)
+    → IsTurn t journal 0 (Ask (RowsOf group o cursor latest limit)) (Done (Rows page)) u journal' → group_of u group ≡ Some g → (1 ≤ limit) × IsPage u g o (place_of cursor) limit page
+turn_is t journal u journal' g group o cursor latest limit page (inl step) there =
+    answer_is u g group o cursor latest limit page there (subst (λ v. IsAnswer v (RowsOf group o cursor latest limit) (Done (Rows page))) (sym step.1.0) step.0)
+turn_is t journal u journal' g group o cursor latest limit page (inr none) there = let f : Done (Rows page) ≡ NoMemory = none.0 in absurd (cc)
+
+shown : (s t : BookState) (g : GroupRow) (search : Search) (revision : ℕ) (after : Option Position) (page : Page) (x : Taken) → OwnTurn s x.command x.answer t
+    → ShowsPage search revision after page x → group_of t.tables search.group ≡ Some g → (limit : ℕ) × (1 ≤ limit) × IsPage t.tables g search.options after limit page
+shown s t g search revision after page x turn shows there =
+    let asked = subst (λ c. IsTurn s.tables s.journal 0 c x.answer.outcome t.tables t.journal) shows.asked turn.step in
+    let answered = subst (λ (out : Outcome). IsTurn s.tables s.journal 0 (Ask (RowsOf search.group search.options shows.cursor shows.latest shows.limit)) out t.tables t.journal) shows.answered asked in
+    let is = turn_is s.tables s.journal t.tables t.journal g search.group search.options shows.cursor shows.latest shows.limit page answered there in
+    (shows.limit, is.0, subst (λ (f : Option Position). IsPage t.tables g search.options f shows.limit page) shows.place is.1)
+
+-- ---- the pages resume one another
+
+module _ (t : Tables) (search : Search) (g : GroupRow) (there : group_of t search.group ≡ Some g) where
+  one_shown : (s u : BookState) (after : Option Position) (page : Page) (turn : Option Taken) (q : Request) (r : Response) → IsTold s turn q r u → ShowsTo search t.revision after page turn
+      → (u.tables.revision ≡ t.revision → u.tables ≡ t) → (limit : ℕ) × (1 ≤ limit) × IsPage t g search.options after limit page
+  one_shown s u after page None q r told shows same = absurd shows
+  one_shown s u after page (Some x) q r told shows same =
+      let tables = same (sym told.1.revision ∙ shows.over) in
+      let is = shown s u g search t.revision after page x told.1 shows (subst (λ v. group_of v search.group ≡ Some g) (sym tables) there) in
+      (is.0, is.1, subst (λ v. IsPage v g search.options after is.0 page) tables is.2)
+
+  resumed : (s : BookState) (after : Option Position) (xs : List Told) (pages : List Page) → AreTold s xs → ShowPages search t.revision after xs pages
+      → ((c : BookState) → HasStood s xs c → c.tables.revision ≡ t.revision → c.tables ≡ t) → AreResumed t g search.options after pages
+  resumed s after xs [] told shows same = tt
+  resumed s after [] (page ∷ pages) told shows same = absurd shows
+  resumed s after (x ∷ xs) (page ∷ pages) told (inl shows) same =
+      (one_shown s x.after after page x.turn x.request x.response told.0 shows.0 (same x.after (inr (stands x.after xs))), resumed x.after page.next xs pages told.1 shows.1 (λ c at. same c (inr at)))
+    where
+      stands : (b : BookState) (ys : List Told) → HasStood b ys b
+      stands b [] = refl
+      stands b (y ∷ ys) = inl refl
+  resumed s after (x ∷ xs) (page ∷ pages) told (inr shows) same = resumed x.after after xs (page ∷ pages) told.1 shows (λ c at. same c (inr at))
+
+-- ---- so they join
+
+contains_group : (id : ℕ) (groups : List GroupRow) (g : GroupRow) → find (λ (x : GroupRow). x.id == id) groups ≡ Some g → Contains groups g
+contains_group id groups g e =
+    elim (find_cases (λ (x : GroupRow). x.id == id) groups) [
+      | inl n ↦ let f : None ≡ Some g = sym n ∙ e in absurd (cc)
+      | inr (y, i, p, f) ↦ let h : Some y ≡ Some g = sym f ∙ e in let k : y ≡ g = cc in contains_from_in groups g (rw (← k) i)
+    ]
+
+joins_over : (t : Tables) → IsSound t → (xs : List Exchange) (last : BookState) → Turns (Exchanged OwnTurn) (opened_over t) xs last → JoinsPages t xs
+joins_over t sound xs last h =
+    let told = told_of (opened_over t) xs last h in (
       told.0,
       told.1,
       told.2,
-      λ id g listing pages found is shows.
-          pages_join trial g anywhere pages listing (sound_group trial g trial_sound (contains_found (λ (x : GroupRow). x.id == id) trial.groups g found)) is
-          (resumed trial id g found None told.0 pages told.2 shows),
+      λ b search g listing pages stood there is shows.
+          pages_join b.tables g search.options pages listing
+          (sound_group b.tables g (sound_stood (opened_over t) told.0 b sound told.2 stood) (contains_group search.group b.tables.groups g there)) is
+          (resumed b.tables search g there (opened_over t) None told.0 pages told.2 shows (λ c at. same_tables (opened_over t) told.0 c b told.2 at stood)),
     )
+
+pub joins_pages : (store : Store) (xs : List Exchange) (last : BookState) → Turns (Exchanged OwnTurn) (opened_over (tables_of store)) xs last → JoinsPages (tables_of store) xs
+joins_pages store xs last h = joins_over (tables_of store) (store_sound store) xs last h

@@ -1,26 +1,31 @@
--- What stands between a front and a back is found by cutting both off, and a target is cut at its `?`.
-use Rattle.std.proofs.Common.{◌≡◌, ◌≢◌, ℕ, ◌==◌, Bool, false, List, [], ◌∷◌, ◌++◌, codes, decimal, Option, Some, None, Result, Ok, Err, IfOk, MatchOption, Bor, unwrap_or, refl, sym, ap, ◌∙◌, inl, inr, subst, arith}
-use Rattle.std.specs.List.{slice_split}
-use Rattle.std.proofs.lemmas.List.{append_cancel_left, append_cancel_right, append_assoc, append-nil}
-use Rattle.std.proofs.lemmas.List.Elements.{All-from_recursion, All-append}
-use Rattle.std.proofs.lemmas.List.Splits.{slice_split_none}
+-- What stands between a front and a back is found by cutting both off, and a target is cut at its first `?`.
+use Rattle.std.proofs.Common.{◌≡◌, ◌≢◌, ℕ, suc, add-one, ◌+◌, ◌-◌, ◌<◌, ◌≤◌, ◌==◌, Bool, true, false, List, [], ◌∷◌, ◌++◌, length, take, drop, drop-cons, get_or, codes, decimal, All, Option, Some, None, Result, Ok, Err, IfOk, MatchOption, Bor, refl, sym, ap, subst, ◌∙◌, inl, inr, arith}
+use Rattle.std.specs.List.{slice_split, position, position_or_len}
+use Rattle.std.proofs.lemmas.Bool.{ne_eqb}
+use Rattle.std.proofs.lemmas.Bool.Decides.{nat_tests}
+use Rattle.std.proofs.lemmas.List.{append_cancel_left, append_cancel_right, append_assoc, append-nil, take-append-drop, get_or-take, length-take, length-drop, take_all}
+use Rattle.std.proofs.lemmas.List.Elements.{All-from_recursion, All-append, All-nil, All-from_get_or}
+use Rattle.std.proofs.lemmas.Grind.{common_steps}
+use Rattle.std.proofs.lemmas.List.Quantifiers.{position-Some}
+use Rattle.std.proofs.lemmas.List.Sums.{fails_before_first}
+use Rattle.std.proofs.lemmas.List.Splits.{slice_split_none, slice_split_at}
 use Rattle.desk_base.specs.declared.memory.NoMemory.{NoMemory}
-use Rattle.desk_base.specs.declared.searches.Cursor.{Cursor}
-use Rattle.desk_batch.specs.declared.asked.Query.{Query}
-use Rattle.desk_batch.specs.declared.asked.Query.TheVariants.{Rows}
+use Rattle.desk_base.specs.declared.answers.Command.{Command}
+use Rattle.desk_base.specs.declared.answers.Query.{Query}
+use Rattle.desk_base.specs.declared.answers.Query.TheVariants.{Revision}
 use Rattle.desk_wire.specs.declared.rules.Request.{Request}
-use Rattle.desk_batch.specs.Decimals.{IsId, ReadsId}
-use Rattle.desk_batch.specs.Paging.{limit_text, after_text, IsQuery, AreInRange}
-use Rattle.desk_batch.specs.Requesting.{default_limit, rows_target, IsRowsTarget, AsksRows}
-use Rattle.desk_batch.specs.RequestReading.{Finds, AreCut, IsRowsIn, IsQueryIn, IsQueryOf, IsAskedBehind}
+use Rattle.desk_json.specs.Decimals.{IsId, ReadsId}
+use Rattle.desk_batch.specs.Paging.{IsPart, asked_by, nothing_asked, query_text, AreParts}
+use Rattle.desk_batch.specs.Requesting.{rows_target, rows_of, AsksRows, AsksRevision, IsQuestion, IsBodyOf, IsGot, IsPosted, IsAsked}
+use Rattle.desk_batch.specs.RequestReading.{Finds, IsAskedBehind, IsCut, AsksFirstRows, AsksRowsBehind}
 use Rattle.desk_batch.specs.declared.paging.Asked.{Asked}
-use Rattle.desk_batch.proofs.PieceLemmas.{Lacks, decimal_lacks, cut_once, text_of_one, text_of_two}
-use Rattle.desk_batch.proofs.PagingLemmas.{question, limit_lacks, after_lacks}
+use Rattle.desk_batch.specs.declared.paging.Part.{Part}
+use Rattle.desk_batch.proofs.PieceLemmas.{Lacks, decimal_lacks, some_pieces}
 
 abbrev pub is_question : ℕ → Bool
 is_question b = b == 63
 
--- The path.
+-- ---- the path
 
 -- a part behind a front that is cut at its back
 pub cut_at_back : (whole front part back : List ℕ) (r : Option (Bor (List ℕ))) → whole ≡ front ++ part → MatchOption r ((x : List ℕ) → part ≢ x ++ back) (λ x. part ≡ x.now ++ back) → MatchOption r ((x : List ℕ) → whole ≢ front ++ x ++ back) (λ x. whole ≡ front ++ x.now ++ back)
@@ -32,75 +37,146 @@ pub id_between : (whole front part back : List ℕ) (r : Option ℕ) → whole �
 id_between whole front part back None e h = λ id is f. h id is (append_cancel_left front part (decimal id) (append_cancel_right (front ++ part) (front ++ decimal id) back (sym e ∙ f)))
 id_between whole front part back (Some id) e h = (h.0, e ∙ ap (λ t. front ++ t ++ back) h.1)
 
--- The target.
-
-rows_lack : (group : ℕ) → IsId group → Lacks 63 (rows_target group)
+pub rows_lack : (group : ℕ) → IsId group → Lacks 63 (rows_target group)
 rows_lack group id =
     let Free = λ (x : ℕ). (x == 63) ≡ false in
     All-append Free (codes "/groups/" ++ decimal group) (codes "/rows")
     (All-append Free (codes "/groups/") (decimal group) (All-from_recursion Free (codes "/groups/") (refl, (refl, (refl, (refl, (refl, (refl, (refl, (refl, tt))))))))) (decimal_lacks 63 group (omega (arith, id)) (inr (omega arith))))
     (All-from_recursion Free (codes "/rows") (refl, (refl, (refl, (refl, (refl, tt))))))
 
-cut_in_two : (target text : List ℕ) (group : ℕ) → IsId group → Lacks 63 text → target ≡ rows_target group ++ 63 ∷ text → slice_split is_question target ≡ rows_target group ∷ text ∷ []
-cut_in_two target text group id free e = ap (slice_split is_question) e ∙ cut_once 63 (rows_target group) text refl (rows_lack group id) free
+-- ---- the first `?`
 
-both_lack : (front back : List ℕ) → Lacks 63 front → Lacks 63 back → Lacks 63 (front ++ codes "&" ++ back)
-both_lack front back free free' =
-    let Free = λ (x : ℕ). (x == 63) ≡ false in
-    All-append Free (front ++ codes "&") back (All-append Free front (codes "&") free (All-from_recursion Free (codes "&") (refl, tt))) free'
+cut_here : (xs : List ℕ) (i : ℕ) → i < length xs → (get_or xs i 0 == 63) ≡ true → xs ≡ take i xs ++ 63 ∷ drop (i + 1) xs
+cut_here xs i within e =
+    let same : get_or xs i 0 ≡ 63 = grind (arith, nat_tests) in
+    sym (take-append-drop i xs) ∙ ap (λ l. take i xs ++ l) (drop-cons xs i 0 within ∙ ap (λ x. x ∷ drop (suc i) xs) same ∙ ap (λ n. 63 ∷ drop n xs) (sym (add-one i)))
 
-cut_by : (target query : List ℕ) (group : ℕ) (limit : Option ℕ) (after : Option Cursor) → IsId group → AreInRange limit after → IsQuery limit after query → target ≡ rows_target group ++ query → AreCut (slice_split is_question target) group limit after
-cut_by target query group None None id ranges is e =
-    inl (ap (slice_split is_question) (e ∙ ap (λ t. rows_target group ++ t) is ∙ append-nil (rows_target group)) ∙ slice_split_none is_question (rows_target group) (rows_lack group id), refl)
-cut_by target query group (Some n) None id ranges is e =
-    inr (limit_text n, cut_in_two target (limit_text n) group id (limit_lacks 63 n question ranges.small) (e ∙ ap (λ t. rows_target group ++ t) is), refl)
-cut_by target query group None (Some c) id ranges is e =
-    inr (after_text c, cut_in_two target (after_text c) group id (after_lacks 63 c question ranges.valid) (e ∙ ap (λ t. rows_target group ++ t) is), refl)
-cut_by target query group (Some n) (Some c) id ranges (inl is) e =
-    let free = both_lack (limit_text n) (after_text c) (limit_lacks 63 n question ranges.small) (after_lacks 63 c question ranges.valid) in
-    inr (limit_text n ++ codes "&" ++ after_text c, cut_in_two target (limit_text n ++ codes "&" ++ after_text c) group id free (e ∙ ap (λ t. rows_target group ++ t) is), inl refl)
-cut_by target query group (Some n) (Some c) id ranges (inr is) e =
-    let free = both_lack (after_text c) (limit_text n) (after_lacks 63 c question ranges.valid) (limit_lacks 63 n question ranges.small) in
-    inr (after_text c ++ codes "&" ++ limit_text n, cut_in_two target (after_text c ++ codes "&" ++ limit_text n) group id free (e ∙ ap (λ t. rows_target group ++ t) is), inr refl)
+pub cut_at_first : (target : List ℕ) (i : ℕ) → position is_question target ≡ Some i → IsCut target (take i target) (take (length target - (i + 1)) (drop (i + 1) target))
+cut_at_first target i e =
+    let first = position-Some is_question target i 0 e in
+    let rest : take (length target - (i + 1)) (drop (i + 1) target) ≡ drop (i + 1) target = take_all (length target - (i + 1)) (drop (i + 1) target) (omega (arith, length-drop (i + 1) target)) in
+    record {
+      before = All-from_get_or (λ b. (b == 63) ≡ false) (take i target) 0 (λ k lt. let low : k < i = omega (arith, lt, length-take i target) in subst (λ b. (b == 63) ≡ false) (sym (get_or-take i target k 0 low)) (first.2 k low));
+      whole = cut_here target i first.0 first.1 ∙ ap (λ l. take i target ++ 63 ∷ l) (sym rest);
+    }
 
-pub cut_of : (target : List ℕ) (group : ℕ) (limit : Option ℕ) (after : Option Cursor) → IsRowsTarget target group limit after → AreCut (slice_split is_question target) group limit after
-cut_of target group limit after is = cut_by target is.query group limit after is.id is.ranges is.asks is.whole
+pub no_question : (target : List ℕ) → position is_question target ≡ None → All (λ b. (b == 63) ≡ false) target
+no_question target e =
+    let none : length target ≤ position_or_len is_question target = grind (arith, common_steps) in
+    All-from_get_or (λ b. (b == 63) ≡ false) target 0 (λ k lt. fails_before_first is_question target k 0 (omega (arith, lt, none)))
 
--- What no pieces ask.
+-- a target that is cut has two pieces at least
+split_cut : (target path text : List ℕ) → Lacks 63 path → target ≡ path ++ 63 ∷ text → slice_split is_question target ≡ path ∷ slice_split is_question text
+split_cut target path text free e = ap (slice_split is_question) e ∙ slice_split_at is_question path 63 text free refl
 
-pub no_path : (path : List ℕ) (rest : List (List ℕ)) → ((group : ℕ) → IsId group → path ≢ rows_target group) → (q : Query) → ¬ (IsQueryIn (path ∷ rest) q)
-no_path path rest none (Rows group after limit) is =
-    elim is.1.cut [
-      | inl w ↦ none group is.1.id (let e = w.0 in cc)
-      | inr w ↦ none group is.1.id (let e = w.1 in cc)
-    ]
+-- and it is cut in one way
+module _ (target path text : List ℕ) (cut : IsCut target path text) where
+  pub same_cut : (other more : List ℕ) → Lacks 63 other → target ≡ other ++ 63 ∷ more → (path ≡ other) × (text ≡ more)
+  same_cut other more free e =
+      let pieces : path ∷ slice_split is_question text ≡ other ∷ slice_split is_question more = sym (split_cut target path text cut.before cut.whole) ∙ split_cut target other more free e in
+      let same : path ≡ other = cc in
+      let rest : 63 ∷ text ≡ 63 ∷ more = append_cancel_left path (63 ∷ text) (63 ∷ more) (sym cut.whole ∙ e ∙ ap (λ p. p ++ 63 ∷ more) (sym same)) in
+      (same, cc)
 
-pub no_query : (path text : List ℕ) → ((asked : Asked) → ¬ (IsAskedBehind text asked)) → (q : Query) → ¬ (IsQueryIn (path ∷ text ∷ []) q)
-no_query path text none (Rows group after limit) is =
-    elim is.1.cut [
-      | inl w ↦ (let e = w.0 in cc)
-      | inr w ↦
-          (let e = w.1 in
-          let same : w.0 ≡ text = cc in
-          none (record { limit = is.0; after = after }) (is.1.ranges, subst (λ t. IsQuery is.0 after (codes "?" ++ t)) same w.2))
-    ]
+  pub not_whole : (other : List ℕ) → Lacks 63 other → target ≢ other
+  not_whole other free e =
+      let pieces : path ∷ slice_split is_question text ≡ other ∷ [] = sym (split_cut target path text cut.before cut.whole) ∙ ap (slice_split is_question) e ∙ slice_split_none is_question other free in
+      let none : slice_split is_question text ≡ [] = cc in
+      some_pieces 63 text none
 
-pub no_request : (request : Request) → ((q : Query) → ¬ (IsQueryOf request.target q)) → (group : ℕ) (limit : Option ℕ) (after : Option Cursor) → ¬ (AsksRows request group limit after)
-no_request request none group limit after is = none (Rows group after (unwrap_or limit default_limit)) (limit, is.target, refl)
+  rows_cut : (group : ℕ) (parts : List Part) → IsId group → AreParts parts → target ≡ rows_target group ++ query_text parts → (path ≡ rows_target group) × (codes "?" ++ text ≡ query_text parts)
+  rows_cut group [] id are e = absurd (not_whole (rows_target group) (rows_lack group id) (e ∙ append-nil (rows_target group)))
+  rows_cut group (part ∷ parts) id are e =
+      let same = same_cut (rows_target group) _ (rows_lack group id) e in
+      (same.0, ap (λ t. 63 ∷ t) same.1)
 
--- What the pieces ask is what the target asks.
+  rows_behind : (query : Query) → AsksRows target query → AsksRowsBehind path text query
+  rows_behind query is =
+      let same = rows_cut is.group is.parts is.id is.are_parts is.whole in
+      record {
+        group = is.group;
+        asked = asked_by is.parts;
+        id = is.id;
+        path_is = same.0;
+        is_asked = record { parts = is.parts; are_parts = is.are_parts; query = same.1; asks = refl };
+        asks = is.asks;
+      }
 
-target_of : (target : List ℕ) (group : ℕ) (limit : Option ℕ) (after : Option Cursor) → IsRowsIn (slice_split is_question target) group limit after → IsRowsTarget target group limit after
-target_of target group limit after is =
-    elim is.cut [
-      | inl w ↦ record { id = is.id; ranges = is.ranges; query = []; asks = w.1; whole = text_of_one 63 target (rows_target group) w.0 ∙ sym (append-nil (rows_target group)) }
-      | inr w ↦ record { id = is.id; ranges = is.ranges; query = codes "?" ++ w.0; asks = w.2; whole = text_of_two 63 target (rows_target group) w.0 w.1 }
-    ]
+  rows_before : (query : Query) → AsksRowsBehind path text query → AsksRows target query
+  rows_before query is = record {
+    group = is.group;
+    parts = is.is_asked.parts;
+    id = is.id;
+    are_parts = is.is_asked.are_parts;
+    whole = cut.whole ∙ ap (λ p. p ++ 63 ∷ text) is.path_is ∙ ap (λ q. rows_target is.group ++ q) is.is_asked.query;
+    asks = is.asks ∙ ap (rows_of is.group) is.is_asked.asks;
+  }
 
-query_in : (target : List ℕ) (q : Query) → IsQueryOf target q → IsQueryIn (slice_split is_question target) q
-query_in target (Rows group after limit) is = (is.0, record { id = is.1.id; ranges = is.1.ranges; cut = cut_of target group is.0 after is.1 }, is.2)
+  -- what the path and the text ask is what the target asks
+  pub cut_rows : (r : Result (Option Query) NoMemory) → IfOk r (λ query. Finds (AsksRowsBehind path text) query) → IfOk r (λ query. Finds (AsksRows target) query)
+  cut_rows (Ok (Some query)) h = rows_before query h
+  cut_rows (Ok None) h = λ query is. h query (rows_behind query is)
+  cut_rows (Err e) h = tt
 
-pub whole_target : (target : List ℕ) (r : Result (Option Query) NoMemory) → IfOk r (λ q. Finds (IsQueryIn (slice_split is_question target)) q) → IfOk r (λ q. Finds (IsQueryOf target) q)
-whole_target target (Ok (Some (Rows group after limit))) h = (h.0, target_of target group h.0 after h.1, h.2)
-whole_target target (Ok None) h = λ q is. h q (query_in target q is)
-whole_target target (Err e) h = tt
+-- a target without a `?` is a path
+module _ (target : List ℕ) (free : All (λ b. (b == 63) ≡ false) target) where
+  uncut : (group : ℕ) (parts : List Part) → IsId group → target ≡ rows_target group ++ query_text parts → (target ≡ rows_target group) × (asked_by parts ≡ nothing_asked)
+  uncut group [] id e = (e ∙ append-nil (rows_target group), refl)
+  uncut group (part ∷ parts) id e =
+      absurd (not_whole target (rows_target group) _ (record { before = rows_lack group id; whole = e }) target free refl)
+
+  first_behind : (query : Query) → AsksRows target query → AsksFirstRows target query
+  first_behind query is =
+      let same = uncut is.group is.parts is.id is.whole in
+      record { group = is.group; id = is.id; path_is = same.0; asks = is.asks ∙ ap (rows_of is.group) same.1 }
+
+  first_before : (query : Query) → AsksFirstRows target query → AsksRows target query
+  first_before query is = record {
+    group = is.group;
+    parts = [];
+    id = is.id;
+    are_parts = record { each = All-nil IsPart; once = refl };
+    whole = is.path_is ∙ sym (append-nil (rows_target is.group));
+    asks = is.asks;
+  }
+
+  pub first_rows : (r : Option Query) → Finds (AsksFirstRows target) r → Finds (AsksRows target) r
+  first_rows (Some query) h = first_before query h
+  first_rows None h = λ query is. h query (first_behind query is)
+
+-- ---- what asks nothing
+
+pub no_first : (path : List ℕ) → ((group : ℕ) → IsId group → path ≢ rows_target group) → (query : Query) → ¬ (AsksFirstRows path query)
+no_first path none query is = none is.group is.id is.path_is
+
+pub no_path : (path text : List ℕ) → ((group : ℕ) → IsId group → path ≢ rows_target group) → (query : Query) → ¬ (AsksRowsBehind path text query)
+no_path path text none query is = none is.group is.id is.path_is
+
+pub no_query : (path text : List ℕ) → ((asked : Asked) → ¬ (IsAskedBehind text asked)) → (query : Query) → ¬ (AsksRowsBehind path text query)
+no_query path text none query is = none is.asked is.is_asked
+
+pub no_revision : (target : List ℕ) → target ≢ codes "/revision" → (query : Query) → ¬ (AsksRevision target query)
+no_revision target other query is = other is.whole
+
+-- rows or nothing, where the revision is not asked for
+pub rows_or_revision : (target : List ℕ) (r : Result (Option Query) NoMemory) → ((query : Query) → ¬ (AsksRevision target query)) → IfOk r (λ query. Finds (AsksRows target) query) → IfOk r (λ query. Finds (IsQuestion target) query)
+rows_or_revision target (Ok (Some query)) none h = inl h
+rows_or_revision target (Ok None) none h = λ query is. elim is [ inl rows ↦ h query rows | inr revision ↦ none query revision ]
+rows_or_revision target (Err e) none h = tt
+
+-- nothing is got where no question is asked
+pub no_got : (request : Request) → ((query : Query) → ¬ (IsQuestion request.target query)) → (command : Command) → ¬ (IsGot request command)
+no_got request none command is = none is.query is.question
+
+-- a change is posted, or it is not
+pub posted : (request : Request) (r : Result (Option Command) NoMemory) → (request.method ≡ codes "POST") × (request.target ≡ codes "/changes") → IfOk r (λ command. Finds (IsBodyOf request.body) command)
+    → IfOk r (λ command. Finds (IsPosted request) command)
+posted request (Ok (Some command)) asks h = record { method = asks.0; target = asks.1; body = h }
+posted request (Ok None) asks h = λ command is. h command is.body
+posted request (Err e) asks h = tt
+
+pub got_or_posted : (request : Request) (r : Result (Option Command) NoMemory) → ((command : Command) → ¬ (IsGot request command)) → IfOk r (λ command. Finds (IsPosted request) command)
+    → IfOk r (λ command. Finds (IsAsked request) command)
+got_or_posted request (Ok (Some command)) none h = inr h
+got_or_posted request (Ok None) none h = λ command is. elim is [ inl got ↦ none command got | inr posted ↦ h command posted ]
+got_or_posted request (Err e) none h = tt

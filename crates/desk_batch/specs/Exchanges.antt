@@ -1,7 +1,7 @@
 -- What a request and its response have to do with a turn.
-use Rattle.std.specs.Prelude.{◌≡◌, ◌⊎◌}
-use Rattle.desk_batch.specs.declared.asked.Command.{Command as Asked}
-use Rattle.desk_batch.specs.declared.asked.Answer.{Answer}
+use Rattle.std.specs.Prelude.{◌≡◌, ◌⊎◌, Option, Some, None, Result, Ok, Err}
+use Rattle.desk_base.specs.declared.answers.Command.{Command as Asked}
+use Rattle.desk_base.specs.declared.answers.Answer.{Answer}
 use Rattle.desk_wire.specs.declared.rules.Request.{Request}
 use Rattle.desk_wire.specs.declared.responses.Response.{Response}
 use Rattle.desk_batch.specs.declared.requests.Routed.{Routed}
@@ -19,6 +19,13 @@ TurnOf Turn (Command command) s q r t = (a : Answer) × Turn s command a t × (r
 -- the request is read, and its response given
 abbrev pub Exchanged : {S : Type 0} (Turn : S → Asked → Answer → S → Type 0) → S → Request → Response → S → Type 0
 Exchanged Turn s q r t = (routed : Routed) × Reads q routed × TurnOf Turn routed s q r t
+
+-- an answer is the response, or there is none, for want of memory or where no turn could be drawn
+abbrev pub IsResponse : Request → Option Answer → Result Response Stop → Type 0
+IsResponse q (Some a) (Ok r) = r ≡ answer_response q a
+IsResponse q (Some a) (Err why) = why ≡ stop.NoMemory
+IsResponse q None (Ok r) = ⊥
+IsResponse q None (Err why) = why ≡ stop.Spent
 
 -- a request that has no response: for want of memory nothing was done or one turn was taken, and where no turn can be drawn none was
 abbrev pub IsStopped : {S : Type 0} (Turn : S → Asked → Answer → S → Type 0) (Spent : S → S → Type 0) → S → Request → Stop → S → Type 0

@@ -1,15 +1,10 @@
 -- The definitions that contracts of this crate cite, each in the module of its subject.
 pub mod Words
-pub mod Decimals
-pub mod Moments
-pub mod Cursors
-pub mod CursorReading
-pub mod Answers
 pub mod Paging
 pub mod Requesting
 pub mod RequestReading
 pub mod Replies
-pub mod Steps
+pub mod Turns
 pub mod Exchanges
 pub mod Ends
 pub mod Complete

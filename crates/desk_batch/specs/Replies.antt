@@ -1,31 +1,33 @@
 -- The responses to requests.
 use Rattle.std.specs.Prelude.{ℕ, List, codes, None, false}
-use Rattle.desk_batch.specs.declared.asked.Answer.{Answer}
-use Rattle.desk_batch.specs.declared.asked.Outcome.{Outcome}
-use Rattle.desk_batch.specs.declared.asked.Outcome.TheVariants.{Done, Refused, NoMemory}
-use Rattle.desk_batch.specs.declared.asked.Refusal.{Refusal}
-use Rattle.desk_batch.specs.declared.asked.Refusal.TheVariants.{UnknownId, BadField, Moved}
+use Rattle.desk_base.specs.declared.answers.Answer.{Answer}
+use Rattle.desk_base.specs.declared.answers.Outcome.{Outcome}
+use Rattle.desk_base.specs.declared.answers.Outcome.TheVariants.{Done, Repeated, Refused, NoMemory}
+use Rattle.desk_base.specs.declared.refusals.Refusal.{Refusal}
+use Rattle.desk_base.specs.declared.refusals.Refusal.TheVariants.{UnknownId, BadField, BadTree}
 use Rattle.desk_wire.specs.declared.rules.Request.{Request}
 use Rattle.desk_wire.specs.declared.responses.Response.{Response}
 use Rattle.desk_wire.specs.declared.responses.BodyKind.TheVariants.{Json}
 use Rattle.desk_batch.specs.declared.requests.WebRefusal.{WebRefusal}
 use Rattle.desk_batch.specs.declared.requests.WebRefusal.TheVariants.{NotBuilt}
-use Rattle.desk_batch.specs.Answers.{answer_text}
+use Rattle.desk_json.specs.Answers.{answer_text}
 
 -- a JSON body with this status; the connection closes after it exactly where the request asks for that
 abbrev pub json_response : Request → ℕ → List ℕ → Response
 json_response request status body =
     record { status = status; kind = Json; allow = None; close = request.close; bare = false; body = body }
 
--- the status of a refusal: what is not there is not found, a value out of its range is not processed, and what has moved conflicts
+-- the status of a refusal: what is not there is not found, a value that breaks a rule of its own is not processed, and every other conflicts
 abbrev pub refusal_status : Refusal → ℕ
 refusal_status (UnknownId key) = 404
 refusal_status (BadField field) = 422
-refusal_status (Moved shown now) = 409
+refusal_status (BadTree rule node) = 422
+refusal_status _ = 409
 
 -- the status of an outcome
 abbrev pub outcome_status : Outcome → ℕ
 outcome_status (Done reply) = 200
+outcome_status (Repeated receipt) = 200
 outcome_status (Refused refusal) = refusal_status refusal
 outcome_status NoMemory = 507
 

@@ -1,76 +1,89 @@
 -- How the target of a request is read, piece by piece.
-use Rattle.std.specs.Prelude.{◌≡◌, ℕ, ◌<◌, ◌^◌, ◌⊎◌, List, [], ◌∷◌, ◌++◌, codes, Option, Some, None, unwrap_or}
+use Rattle.std.specs.Prelude.{◌≡◌, ℕ, ◌<◌, ◌^◌, List, [], ◌∷◌, ◌++◌, codes, decimal, map, All, ◌==◌, false, Option, Some, None}
+use Rattle.desk_base.specs.declared.answers.Query.{Query}
 use Rattle.desk_base.specs.declared.searches.Cursor.{Cursor}
-use Rattle.desk_batch.specs.declared.asked.Query.{Query}
-use Rattle.desk_batch.specs.declared.asked.Query.TheVariants.{Rows}
-use Rattle.desk_batch.specs.Decimals.{IsId}
-use Rattle.desk_batch.specs.CursorReading.{IsCursor}
+use Rattle.desk_time.specs.Limits.{IsMoment}
+use Rattle.desk_time.specs.Moments.{moment_text}
+use Rattle.desk_json.specs.Decimals.{IsId}
 use Rattle.desk_batch.specs.declared.paging.Asked.{Asked}
 use Rattle.desk_batch.specs.declared.paging.Part.{Part}
-use Rattle.desk_batch.specs.declared.paging.Part.TheVariants.{Limit, After}
-use Rattle.desk_batch.specs.Paging.{limit_text, after_text, IsQuery, AreInRange}
-use Rattle.desk_batch.specs.Requesting.{default_limit, rows_target, IsRowsTarget}
+use Rattle.desk_batch.specs.declared.paging.Part.TheVariants.{Limit, After, Latest, From, To}
+use Rattle.desk_batch.specs.Paging.{part_text, IsPart, AreParts, nothing_asked, asked_by, query_text}
+use Rattle.desk_batch.specs.Requesting.{rows_target, rows_of}
 
 -- a value of which this holds, or none where it holds of none
 abbrev pub Finds : {A : Type 0} → (A → Type 0) → Option A → Type 0
 Finds Holds (Some x) = Holds x
 Finds {A} Holds None = (x : A) → ¬ (Holds x)
 
--- a piece gives the limit
-abbrev pub IsLimitPart : List ℕ → ℕ → Type 0
-IsLimitPart piece n = (n < 2 ^ 32) × (piece ≡ limit_text n)
+-- the text is a number below 2^32
+abbrev pub IsNumber : List ℕ → ℕ → Type 0
+IsNumber text n = (n < 2 ^ 32) × (text ≡ decimal n)
 
--- a piece gives the cursor
+-- the text is a moment
+abbrev pub IsMomentOf : List ℕ → ℕ → Type 0
+IsMomentOf text m = IsMoment m × (text ≡ moment_text m)
+
+-- the same behind a name
+abbrev pub IsNumberBehind : List ℕ → List ℕ → ℕ → Type 0
+IsNumberBehind name text n = (n < 2 ^ 32) × (text ≡ name ++ decimal n)
+
+-- the same behind a name
+abbrev pub IsMomentBehind : List ℕ → List ℕ → ℕ → Type 0
+IsMomentBehind name text m = IsMoment m × (text ≡ name ++ moment_text m)
+
+-- the text is that of the part
+abbrev pub IsPartOf : List ℕ → Part → Type 0
+IsPartOf text part = IsPart part × (text ≡ part_text part)
+
+-- the same of a part whose reading takes no memory
+abbrev pub IsShortPartOf : List ℕ → Part → Type 0
+IsShortPartOf text (Limit n) = IsPartOf text (Limit n)
+IsShortPartOf text (After c) = ⊥
+IsShortPartOf text Latest = IsPartOf text Latest
+IsShortPartOf text (From m) = IsPartOf text (From m)
+IsShortPartOf text (To m) = IsPartOf text (To m)
+
+-- the text is that of the part that gives this cursor
 abbrev pub IsAfterPart : List ℕ → Cursor → Type 0
-IsAfterPart piece c = IsCursor c × (piece ≡ after_text c)
+IsAfterPart text c = IsPartOf text (After c)
 
--- a piece gives the limit or the cursor
-abbrev pub IsPart : List ℕ → Part → Type 0
-IsPart piece (Limit n) = IsLimitPart piece n
-IsPart piece (After c) = IsAfterPart piece c
+-- the pieces are the texts of the parts
+pub record ArePartsOf (pieces : List (List ℕ)) (parts : List Part) : Type 0 where
+  pub each : All IsPart parts
+  pub texts : pieces ≡ map part_text parts
 
--- what one part asks
-abbrev pub asked_by : Part → Asked
-asked_by (Limit n) = record { limit = Some n; after = None }
-asked_by (After c) = record { limit = None; after = Some c }
+-- the pieces of a query ask this
+pub record IsAskedIn (pieces : List (List ℕ)) (asked : Asked) : Type 0 where
+  pub parts : List Part
+  pub are_parts : AreParts parts
+  pub texts : pieces ≡ map part_text parts
+  pub asks : asked ≡ asked_by parts
 
--- what two parts ask, which are not of one kind
-abbrev pub asked_by_both : Part → Part → Option Asked
-asked_by_both (Limit n) (After c) = Some (record { limit = Some n; after = Some c })
-asked_by_both (After c) (Limit n) = Some (record { limit = Some n; after = Some c })
-asked_by_both _ _ = None
+-- the text asks this behind a `?`
+pub record IsAskedBehind (text : List ℕ) (asked : Asked) : Type 0 where
+  pub parts : List Part
+  pub are_parts : AreParts parts
+  pub query : codes "?" ++ text ≡ query_text parts
+  pub asks : asked ≡ asked_by parts
 
--- the pieces of a query that is not empty
-abbrev pub ArePieces : Option ℕ → Option Cursor → List (List ℕ) → Type 0
-ArePieces None None pieces = ⊥
-ArePieces (Some n) None pieces = pieces ≡ limit_text n ∷ []
-ArePieces None (Some c) pieces = pieces ≡ after_text c ∷ []
-ArePieces (Some n) (Some c) pieces = (pieces ≡ limit_text n ∷ after_text c ∷ []) ⊎ (pieces ≡ after_text c ∷ limit_text n ∷ [])
+-- the target is cut at its first `?`
+pub record IsCut (target path text : List ℕ) : Type 0 where
+  pub before : All (λ b. (b == 63) ≡ false) path
+  pub whole : target ≡ path ++ 63 ∷ text
 
--- what these pieces ask
-abbrev pub IsAskedIn : List (List ℕ) → Asked → Type 0
-IsAskedIn pieces asked = AreInRange asked.limit asked.after × ArePieces asked.limit asked.after pieces
-
--- what this text asks behind a `?`
-abbrev pub IsAskedBehind : List ℕ → Asked → Type 0
-IsAskedBehind text asked = AreInRange asked.limit asked.after × IsQuery asked.limit asked.after (codes "?" ++ text)
-
--- the pieces of a target: its path alone, or its path and the text of its query
-abbrev pub AreCut : List (List ℕ) → ℕ → Option ℕ → Option Cursor → Type 0
-AreCut pieces group limit after =
-    ((pieces ≡ rows_target group ∷ []) × IsQuery limit after [])
-    ⊎ ((text : List ℕ) × (pieces ≡ rows_target group ∷ text ∷ []) × IsQuery limit after (codes "?" ++ text))
-
--- the pieces ask for rows of this group, with this limit and after this cursor where they are given
-pub record IsRowsIn (pieces : List (List ℕ)) (group : ℕ) (limit : Option ℕ) (after : Option Cursor) : Type 0 where
+-- the path asks for a first page of a group's rows
+pub record AsksFirstRows (path : List ℕ) (query : Query) : Type 0 where
+  pub group : ℕ
   pub id : IsId group
-  pub ranges : AreInRange limit after
-  pub cut : AreCut pieces group limit after
+  pub path_is : path ≡ rows_target group
+  pub asks : query ≡ rows_of group nothing_asked
 
--- what the pieces of a target ask, with the limit where none is given
-abbrev pub IsQueryIn : List (List ℕ) → Query → Type 0
-IsQueryIn pieces (Rows group after limit) = (asked : Option ℕ) × IsRowsIn pieces group asked after × (limit ≡ unwrap_or asked default_limit)
-
--- what a target asks, with the limit where none is given
-abbrev pub IsQueryOf : List ℕ → Query → Type 0
-IsQueryOf target (Rows group after limit) = (asked : Option ℕ) × IsRowsTarget target group asked after × (limit ≡ unwrap_or asked default_limit)
+-- the path, and the text behind a `?`, ask for a page of a group's rows
+pub record AsksRowsBehind (path text : List ℕ) (query : Query) : Type 0 where
+  pub group : ℕ
+  pub asked : Asked
+  pub id : IsId group
+  pub path_is : path ≡ rows_target group
+  pub is_asked : IsAskedBehind text asked
+  pub asks : query ≡ rows_of group asked

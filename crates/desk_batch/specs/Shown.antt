@@ -1,19 +1,22 @@
 -- The pages of a search among the turns of a conversation.
-use Rattle.std.specs.Prelude.{◌≡◌, ℕ, ◌⊎◌, List, [], ◌∷◌, Option, Some, None, ⊤}
-use Rattle.desk_base.specs.declared.tables.Tables.{Tables}
+use Rattle.std.specs.Prelude.{◌≡◌, ℕ, ◌⊎◌, Bool, List, [], ◌∷◌, Option, Some, None, ⊤}
 use Rattle.desk_base.specs.declared.group_rows.GroupRow.{GroupRow}
 use Rattle.desk_base.specs.declared.searches.Cursor.{Cursor}
 use Rattle.desk_base.specs.declared.searches.Found.{Found}
+use Rattle.desk_base.specs.declared.searches.Options.{Options}
 use Rattle.desk_base.specs.declared.searches.Page.{Page}
 use Rattle.desk_base.specs.declared.searches.Position.{Position}
-use Rattle.desk_batch.specs.declared.asked.Command.{Command as Asked}
-use Rattle.desk_batch.specs.declared.asked.Command.TheVariants.{Ask}
-use Rattle.desk_batch.specs.declared.asked.Query.TheVariants.{Rows as RowsOf}
-use Rattle.desk_batch.specs.declared.asked.Outcome.TheVariants.{Done}
-use Rattle.desk_batch.specs.declared.asked.Reply.TheVariants.{Rows}
-use Rattle.desk_batch.specs.declared.asked.Answer.{Answer}
+use Rattle.desk_base.specs.declared.answers.Answer.{Answer}
+use Rattle.desk_base.specs.declared.answers.Command.{Command as Asked}
+use Rattle.desk_base.specs.declared.answers.Command.TheVariants.{Ask}
+use Rattle.desk_base.specs.declared.answers.Query.TheVariants.{Rows as RowsOf}
+use Rattle.desk_base.specs.declared.answers.Outcome.TheVariants.{Done}
+use Rattle.desk_base.specs.declared.answers.Reply.TheVariants.{Rows}
+use Rattle.desk_base.specs.Groups.{group_of}
 use Rattle.desk_base.specs.Listing.{IsListing}
 use Rattle.desk_base.specs.Page.{Joins}
+use Rattle.desk_base.specs.Steps.{place_of}
+use Rattle.desk_core.specs.Books.{BookState}
 use Rattle.desk_wire.specs.declared.rules.Request.{Request}
 use Rattle.desk_wire.specs.declared.responses.Response.{Response}
 use Rattle.desk_batch.specs.declared.requests.Routed.TheVariants.{Command, Refused}
@@ -21,49 +24,70 @@ use Rattle.desk_batch.specs.declared.requests.WebRefusal.{WebRefusal}
 use Rattle.desk_batch.specs.Requesting.{Reads}
 use Rattle.desk_batch.specs.Replies.{answer_response, refusal_response}
 use Rattle.desk_batch.specs.Sessions.{Exchange}
-use Rattle.desk_batch.specs.Steps.{IsAnswer, anywhere, group_of, place_of}
+use Rattle.desk_batch.specs.Turns.{OwnTurn}
 
 -- a command that had a turn, and its answer
 pub record Taken : Type 0 where
   pub command : Asked
   pub answer : Answer
 
--- a request, its turn if it had one, and the response
+-- a request, its turn if it had one, the response, and the book after it
 pub record Told : Type 0 where
   pub request : Request
   pub turn : Option Taken
   pub response : Response
+  pub after : BookState
 
 -- what is seen of it on the connection
 abbrev pub exchange_of : Told → Exchange
 exchange_of x = record { request = x.request; response = x.response }
 
 -- a request that is refused has no turn, and one that is a command has this turn, whose answer is the response
-abbrev pub IsTold : Tables → Option Taken → Request → Response → Type 0
-IsTold t None q r = (why : WebRefusal) × Reads q (Refused why) × (r ≡ refusal_response q why)
-IsTold t (Some x) q r = Reads q (Command x.command) × IsAnswer t x.command x.answer × (r ≡ answer_response q x.answer)
+abbrev pub IsTold : BookState → Option Taken → Request → Response → BookState → Type 0
+IsTold s None q r t = (why : WebRefusal) × Reads q (Refused why) × (r ≡ refusal_response q why) × (t ≡ s)
+IsTold s (Some x) q r t = Reads q (Command x.command) × OwnTurn s x.command x.answer t × (r ≡ answer_response q x.answer)
 
--- each of them is told so over these tables
-abbrev pub AreTold : Tables → List Told → Type 0
-AreTold t [] = ⊤
-AreTold t (x ∷ xs) = IsTold t x.turn x.request x.response × AreTold t xs
+-- each of them is told so, from one book to the next
+abbrev pub AreTold : BookState → List Told → Type 0
+AreTold s [] = ⊤
+AreTold s (x ∷ xs) = IsTold s x.turn x.request x.response x.after × AreTold x.after xs
 
--- the turn was asked for a page of the group, after a place and with some limit, and answered this one
-abbrev pub ShowsPage : ℕ → Option Position → Page → Option Taken → Type 0
-ShowsPage group after page None = ⊥
-ShowsPage group after page (Some x) =
-    (cursor : Option Cursor) × (limit : ℕ)
-    × (x.command ≡ Ask (RowsOf group cursor limit)) × (place_of cursor ≡ after) × (x.answer.outcome ≡ Done (Rows page))
+-- the book stood so, before them or after one of them
+abbrev pub HasStood : BookState → List Told → BookState → Type 0
+HasStood s [] b = b ≡ s
+HasStood s (x ∷ xs) b = (b ≡ s) ⊎ HasStood x.after xs b
 
--- among them are these pages of the group, in this order, the first after a place and each other after the `next` of the one before
-abbrev pub ShowPages : ℕ → Option Position → List Told → List Page → Type 0
-ShowPages group after xs [] = ⊤
-ShowPages group after [] (page ∷ pages) = ⊥
-ShowPages group after (x ∷ xs) (page ∷ pages) =
-    (ShowsPage group after page x.turn × ShowPages group page.next xs pages) ⊎ ShowPages group after xs (page ∷ pages)
+-- a search: the group, and within which starts
+pub record Search : Type 0 where
+  pub group : ℕ
+  pub options : Options
 
--- whatever pages of a group they show, from its beginning on, are together the first rows of its listing, and all of them where the last page is at the end
-abbrev pub PagesJoin : Tables → List Told → Type 0
-PagesJoin t xs =
-    (id : ℕ) (g : GroupRow) (listing : List Found) (pages : List Page)
-    → group_of t id ≡ Some g → IsListing t g anywhere listing → ShowPages id None xs pages → Joins t g anywhere pages listing
+-- the turn was asked for a page of the search, after a place and with some limit, and answered this one over this revision
+pub record ShowsPage (search : Search) (revision : ℕ) (after : Option Position) (page : Page) (x : Taken) : Type 0 where
+  pub cursor : Option Cursor
+  pub latest : Bool
+  pub limit : ℕ
+  pub asked : x.command ≡ Ask (RowsOf search.group search.options cursor latest limit)
+  pub place : place_of cursor ≡ after
+  pub answered : x.answer.outcome ≡ Done (Rows page)
+  pub over : x.answer.revision ≡ revision
+
+-- the request had a turn that shows this page
+abbrev pub ShowsTo : Search → ℕ → Option Position → Page → Option Taken → Type 0
+ShowsTo search revision after page None = ⊥
+ShowsTo search revision after page (Some x) = ShowsPage search revision after page x
+
+-- among them are these pages of the search over this revision, in this order, the first after a place and each other after the `next` of the one before
+abbrev pub ShowPages : Search → ℕ → Option Position → List Told → List Page → Type 0
+ShowPages search revision after xs [] = ⊤
+ShowPages search revision after [] (page ∷ pages) = ⊥
+ShowPages search revision after (x ∷ xs) (page ∷ pages) =
+    (ShowsTo search revision after page x.turn × ShowPages search revision page.next xs pages) ⊎ ShowPages search revision after xs (page ∷ pages)
+
+-- whatever pages of a search they show over the revision of a book that has stood, from the beginning of the search on, are together the first rows of its
+-- listing over the tables of that book, and all of them where the last page is at the end
+abbrev pub PagesJoin : BookState → List Told → Type 0
+PagesJoin s xs =
+    (b : BookState) (search : Search) (g : GroupRow) (listing : List Found) (pages : List Page)
+    → HasStood s xs b → group_of b.tables search.group ≡ Some g → IsListing b.tables g search.options listing
+    → ShowPages search b.tables.revision None xs pages → Joins b.tables g search.options pages listing

@@ -1,9 +1,23 @@
 -- The words that a program is started with.
-use Rattle.std.specs.Prelude.{ℕ, List, [], ◌∷◌, codes}
+use Rattle.std.specs.Prelude.{◌≡◌, ℕ, List, [], ◌∷◌, codes}
+use Rattle.desk_base.specs.declared.tables.Tables.{Tables}
+use Rattle.desk_base.specs.Trial.{no_rows, trial}
+use Rattle.desk_batch.specs.declared.words.Store.{Store}
+use Rattle.desk_batch.specs.declared.words.Store.TheVariants.{Trial, Empty}
 
--- the words that serve the trial tables
-abbrev pub batch_trial : List (List ℕ)
-batch_trial = codes "batch" ∷ codes "trial" ∷ []
+-- the words that serve a store
+abbrev pub words_for : Store → List (List ℕ)
+words_for Trial = codes "batch" ∷ codes "trial" ∷ []
+words_for Empty = codes "batch" ∷ codes "empty" ∷ []
+
+-- the tables of a store at the opening
+abbrev pub tables_of : Store → Tables
+tables_of Trial = trial
+tables_of Empty = no_rows
+
+-- the words are a command
+abbrev pub IsCommand : List (List ℕ) → Type 0
+IsCommand words = (store : Store) × (words ≡ words_for store)
 
 -- the line that says which words there are
 abbrev pub usage_line : List ℕ

@@ -1,20 +1,21 @@
 //! The top call of the program.
-ghost use Rattle.std.specs.Prelude.{◌≡◌, ◌≢◌, ◌⊎◌, ◌<◌, ◌≤◌, ◌^◌, ℕ, List, length, Some};
+ghost use Rattle.std.specs.Prelude.{◌≡◌, ◌⊎◌, ◌<◌, ◌≤◌, ◌^◌, ℕ, List, length, IfOk, Some};
 ghost use Rattle.desk_io.specs.Counts.{Rose};
 ghost use Rattle.desk_wire.specs.Requests.{Requests, clean};
 ghost use Rattle.desk_wire.specs.declared.rules.Request.{Request};
 ghost use Rattle.desk_batch.specs.Ends.{status_of};
-ghost use Rattle.desk_batch.specs.Exchanges.{Exchanged};
-ghost use Rattle.desk_batch.specs.Runs.{HoldsTrial, JoinsPages, OwnTurn, SendsUsage};
-ghost use Rattle.desk_batch.specs.Sessions.{Exchange, Turns};
-ghost use Rattle.desk_base.specs.Trial.{trial};
-ghost use Rattle.desk_base.specs.declared.tables.Tables.{Tables};
-ghost use Rattle.desk_batch.specs.Words.{batch_trial};
+ghost use Rattle.desk_batch.specs.Exchanges.{Exchanged, IsStopped};
+ghost use Rattle.desk_batch.specs.Runs.{HoldsOver, JoinsPages, SendsUsage};
+ghost use Rattle.desk_batch.specs.Sessions.{Exchange, Session, Turns};
+ghost use Rattle.desk_batch.specs.Turns.{opened_over, OwnTurn, NeverSpent};
+ghost use Rattle.desk_batch.specs.Words.{words_for, tables_of, IsCommand};
+ghost use Rattle.desk_core.specs.Books.{BookState};
 
 use crate::conversation::{SessionEnd, converse};
 use crate::turns::{Alone, Serving};
-use crate::words::{Word, is_batch_trial, usage};
-use desk_base::Tables;
+use crate::words::{Store, Word, store_of, usage};
+use desk_base::{NoMemory, Tables};
+use desk_core::Book;
 use desk_io::{Sink, Source};
 use std::alloc::Global;
 
@@ -47,9 +48,49 @@ fn write_usage<W: Sink>(sink: &mut W) -> u8
     }
 }
 
-/// Serves the source as one connection over the trial tables.
-fn batch<S: Source, W: Sink>(alloc: Global, source: &mut S, sink: &mut W) -> u8
-    ensures conversation { HoldsTrial (S.left source.old) (S.left source.new) (W.held sink.old) (W.held sink.new) result }
+/// The tables of a store at the opening.
+fn tables_of(alloc: Global, store: Store) -> Result<Tables, NoMemory>
+    ensures { IfOk result (λ tables. tables ≡ tables_of store) }
+{
+    match store {
+        Store::Trial => Tables::trial(alloc),
+        Store::Empty => Ok(Tables::empty(alloc)),
+    }
+}
+
+/// Opens a book over a store.
+fn open(alloc: Global, store: Store) -> Result<Book, NoMemory>
+    ensures { IfOk result (λ book. book ≡ opened_over (tables_of store)) }
+{
+    let tables = tables_of(alloc, store)?;
+    Ok(Book::over(alloc, tables))
+}
+
+/// Serves the source as one connection over a book.
+fn serve<S: Source, W: Sink>(
+    alloc: Global,
+    source: &mut S,
+    sink: &mut W,
+    book: Book,
+) -> (Book, SessionEnd)
+    ensures session { Session (Exchanged OwnTurn) (IsStopped OwnTurn NeverSpent) (S.left source.old) (S.left source.new) (W.held sink.old) (W.held sink.new) book result.0 result.1 }
+    ensures read_fault { result.1 ≡ SessionEnd.ReadFault → Rose (S.fault_count source.old) (S.fault_count source.new) }
+    ensures write_fault { result.1 ≡ SessionEnd.WriteFault → Rose (W.fault_count sink.old) (W.fault_count sink.new) }
+    ensures source { S.fault_count source.old ≤ S.fault_count source.new }
+    ensures sink { W.fault_count sink.old ≤ W.fault_count sink.new }
+{
+    let engine = Serving {
+        taker: Alone { book },
+    };
+    let (engine, end) = converse(alloc, source, sink, engine);
+    let Serving { taker } = engine;
+    let Alone { book } = taker;
+    (book, end)
+}
+
+/// Serves the source as one connection over a store.
+fn batch<S: Source, W: Sink>(alloc: Global, store: Store, source: &mut S, sink: &mut W) -> u8
+    ensures conversation { HoldsOver (tables_of store) (S.left source.old) (S.left source.new) (W.held sink.old) (W.held sink.new) result }
     ensures read_fault { result ≡ 6 → Rose (S.fault_count source.old) (S.fault_count source.new) }
     ensures write_fault { result ≡ 7 → Rose (W.fault_count sink.old) (W.fault_count sink.new) }
     ensures source { S.fault_count source.old ≤ S.fault_count source.new }
@@ -58,38 +99,32 @@ fn batch<S: Source, W: Sink>(alloc: Global, source: &mut S, sink: &mut W) -> u8
         → ¬ (Rose (S.fault_count source.old) (S.fault_count source.new)) → ¬ (Rose (W.fault_count sink.old) (W.fault_count sink.new))
         → (result ≡ 0) ⊎ (result ≡ 10) }
 {
-    let Ok(tables) = Tables::trial(alloc) else {
+    let Ok(book) = open(alloc, store) else {
         return 10;
     };
-    let engine = Serving {
-        taker: Alone { tables },
-    };
-    let (engine, end) = converse(alloc, source, sink, engine);
-    let Serving { taker } = engine;
-    let Alone { tables } = taker;
-    let _ = tables;
+    let (book, end) = serve(alloc, source, sink, book);
+    let _ = book;
     status(end)
 }
 
 /// Runs `desk` with these words, and gives the exit status. It always returns.
 ///
-/// Status 0: the input was read to its end at a request's border, and all is answered. 2: the words are not `batch trial`.
-/// 3: the input ended inside a request. 4: the rest is no request that is served. 5: 2^32 bytes were taken. 6: the source
-/// failed. 7: the sink failed. 10: memory was not found.
-#[tactic(auto, using(crate::proofs::ShownLemmas::joins_pages))]
+/// Status 0: the input was read to its end at a request's border, and all is answered. 2: the words are neither `batch trial`
+/// nor `batch empty`. 3: the input ended inside a request. 4: the rest is no request that is served. 5: 2^32 bytes were taken.
+/// 6: the source failed. 7: the sink failed. 10: memory was not found.
 pub fn run<S: Source, W: Sink>(alloc: Global, words: &[Word], source: &mut S, sink: &mut W) -> u8
-    // With `batch trial`: the requests that were taken, a turn for each over the trial tables, and the bytes that were
-    // sent, by status.
-    ensures conversation { words.now ≡ batch_trial → HoldsTrial (S.left source.old) (S.left source.new) (W.held sink.old) (W.held sink.new) result }
+    // With the words of a store: the requests that were taken, a turn for each, from a book over the tables of the store on,
+    // and the bytes that were sent, by status.
+    ensures conversation { (store : Store) → words.now ≡ words_for store → HoldsOver (tables_of store) (S.left source.old) (S.left source.new) (W.held sink.old) (W.held sink.new) result }
 
-    // The pages of one search in it, each resumed from the last, are together the first rows of the listing, each once and
-    // in order, and all of them where the last says that it is at the end.
-    ensures pages { (xs : List Exchange) (last : Tables) → Turns (Exchanged OwnTurn) trial xs last → JoinsPages xs }
+    // The pages of one search over one revision in it, each resumed from the last, are together the first rows of the listing
+    // over the tables of that revision, each once and in order, and all of them where the last says that it is at the end.
+    ensures pages { (store : Store) (xs : List Exchange) (last : BookState) → Turns (Exchanged OwnTurn) (opened_over (tables_of store)) xs last → JoinsPages (tables_of store) xs }
 
     // With other words: the usage line, and the source is not read.
-    ensures usage { words.now ≢ batch_trial → SendsUsage (W.held sink.old) (W.held sink.new) result }
-    ensures unread { words.now ≢ batch_trial → source.new ≡ source.old }
-    ensures usage_only { result ≡ 2 → words.now ≢ batch_trial }
+    ensures usage { ¬ (IsCommand words.now) → SendsUsage (W.held sink.old) (W.held sink.new) result }
+    ensures unread { ¬ (IsCommand words.now) → source.new ≡ source.old }
+    ensures usage_only { result ≡ 2 → ¬ (IsCommand words.now) }
 
     // A fault comes only where the count of that object rose in this call.
     ensures read_fault { result ≡ 6 → Rose (S.fault_count source.old) (S.fault_count source.new) }
@@ -98,13 +133,12 @@ pub fn run<S: Source, W: Sink>(alloc: Global, words: &[Word], source: &mut S, si
     ensures sink { W.fault_count sink.old ≤ W.fault_count sink.new }
 
     // An input of whole requests is answered to its end, but for want of memory.
-    ensures complete { (all : List ℕ) (qs : List Request) → words.now ≡ batch_trial → S.left source.old ≡ Some all → Requests all qs clean → length all < 2 ^ 32
+    ensures complete { (all : List ℕ) (qs : List Request) → IsCommand words.now → S.left source.old ≡ Some all → Requests all qs clean → length all < 2 ^ 32
         → ¬ (Rose (S.fault_count source.old) (S.fault_count source.new)) → ¬ (Rose (W.fault_count sink.old) (W.fault_count sink.new))
         → (result ≡ 0) ⊎ (result ≡ 10) }
 {
-    if is_batch_trial(words) {
-        batch(alloc, source, sink)
-    } else {
-        write_usage(sink)
+    match store_of(words) {
+        Some(store) => batch(alloc, store, source, sink),
+        None => write_usage(sink),
     }
 }

@@ -2,11 +2,10 @@
 ghost use Rattle.std.specs.Prelude.{◌≡◌, IfOk};
 ghost use Rattle.desk_batch.specs.Replies.{json_response, refusal_status, outcome_status, answer_response, web_status, web_text, refusal_response};
 
-use crate::answers::answer_text;
-use crate::asked::{Answer, Outcome, Refusal};
 use crate::requests::WebRefusal;
-use desk_base::NoMemory;
+use desk_base::{Answer, NoMemory, Outcome, Refusal};
 use desk_io::Bytes;
+use desk_json::answer_text;
 use desk_wire::{BodyKind, Request, Response};
 use std::alloc::Global;
 
@@ -29,7 +28,8 @@ fn refusal_status(refusal: &Refusal) -> u16
     match refusal {
         Refusal::UnknownId(_) => 404,
         Refusal::BadField(_) => 422,
-        Refusal::Moved(_, _) => 409,
+        Refusal::BadTree(_, _) => 422,
+        _ => 409,
     }
 }
 
@@ -38,6 +38,7 @@ fn outcome_status(outcome: &Outcome) -> u16
 {
     match outcome {
         Outcome::Done(_) => 200,
+        Outcome::Repeated(_) => 200,
         Outcome::Refused(refusal) => refusal_status(refusal),
         Outcome::NoMemory => 507,
     }

@@ -1,21 +1,22 @@
-//! Turns over a schedule: a request that reads as a command has one, and every other its refusal.
-ghost use Rattle.std.specs.Prelude.{◌≡◌, IfOk, IfErr, IfSome, IfNone};
+//! Turns over a book: a request that reads as a command has one, and every other its refusal.
+ghost use Rattle.std.specs.Prelude.{◌≡◌, IfOk, IfErr, IfSome, IfNone, ⊤};
 ghost use Rattle.desk_wire.specs.declared.rules.Request.{Request};
 ghost use Rattle.desk_wire.specs.declared.responses.Response.{Response};
-ghost use Rattle.desk_batch.specs.declared.asked.Command.{Command};
-ghost use Rattle.desk_batch.specs.declared.asked.Answer.{Answer};
-ghost use Rattle.desk_base.specs.Sound.{IsSound};
+ghost use Rattle.desk_base.specs.declared.answers.Answer.{Answer};
+ghost use Rattle.desk_base.specs.declared.answers.Command.{Command};
+ghost use Rattle.desk_core.specs.Built.{IsBuilt};
 ghost use Rattle.desk_batch.specs.declared.conversation.ends.Stop.{Stop};
-ghost use Rattle.desk_batch.specs.Exchanges.{Exchanged, IsStopped};
-ghost use Rattle.desk_batch.specs.Steps.{IsAnswer};
+ghost use Rattle.desk_batch.specs.Exchanges.{Exchanged, IsResponse, IsStopped};
+ghost use Rattle.desk_batch.specs.Requesting.{Reads};
+ghost use Rattle.desk_batch.specs.Turns.{OwnTurn, NeverSpent};
 ghost use Rattle.desk_batch.specs.Replies.{answer_response, refusal_response};
 
-use crate::asked::{Answer, Command};
 use crate::conversation::{Replier, Stop};
 use crate::replies::{answer_response, refusal_response};
 use crate::requests::{Routed, WebRefusal, read_request};
-use crate::step::step;
-use desk_base::Tables;
+use desk_base::{Answer, Command};
+use desk_core::Book;
+use desk_json::laws::changes_are_of_listed_forms;
 use desk_wire::{Request, Response};
 use std::alloc::Global;
 
@@ -32,27 +33,46 @@ pub trait Taker: Sized {
 
     /// Takes a turn for a command. `None` says that no turn can be drawn any more.
     fn take_turn(self, alloc: Global, command: &Command) -> (Self, Option<Answer>)
-        requires { ready self }
+        requires ready { ready self }
+        requires built { IsBuilt command.now }
         ensures ready { ready result.0 }
         ensures turn { IfSome result.1 (λ answer. turn self command.now answer result.0) }
         ensures spent { IfNone result.1 (spent self result.0) };
 }
 
-/// Has the schedule to itself, so each turn begins where the last ended.
+/// Has the book to itself, so each turn begins where the last ended.
+#[derive(Drop)]
 pub struct Alone {
-    pub tables: Tables,
+    pub book: Book,
+}
+
+/// The number of the connection in the journal, where there is only one.
+const ONLY_PASS: u64 = 0;
+
+/// A step of the book.
+fn stepped(alloc: Global, book: Book, command: &Command) -> (Book, Answer)
+    requires { IsBuilt command.now }
+    ensures { OwnTurn book command.now result.1 result.0 }
+{
+    let mut book = book;
+    let answer = book.step(alloc, ONLY_PASS, command);
+    // what every book keeps
+    let _ = book.tables();
+    let _ = book.journal();
+    (book, answer)
 }
 
 impl Taker for Alone {
-    ghost turn = { λ s command answer t. IsAnswer s.tables command answer × (t.tables ≡ s.tables) };
+    ghost turn = { λ s command answer t. OwnTurn s.book command answer t.book };
 
-    ghost spent = { λ s t. ⊥ };
+    ghost spent = { λ s t. NeverSpent s.book t.book };
 
-    ghost ready = { λ s. IsSound s.tables };
+    ghost ready = { λ s. ⊤ };
 
     fn take_turn(self, alloc: Global, command: &Command) -> (Self, Option<Answer>) {
-        let answer = step(alloc, &self.tables, command);
-        (self, Some(answer))
+        let Alone { book } = self;
+        let (book, answer) = stepped(alloc, book, command);
+        (Alone { book }, Some(answer))
     }
 }
 
@@ -83,6 +103,54 @@ fn answer_with(alloc: Global, request: &Request, answer: &Answer) -> Result<Resp
     }
 }
 
+/// The response of what a turn came to, or why there is none.
+fn respond(alloc: Global, request: &Request, answer: &Option<Answer>) -> Result<Response, Stop>
+    ensures { IsResponse request.now answer.now result }
+{
+    match answer {
+        Some(answer) => answer_with(alloc, request, answer),
+        None => Err(Stop::Spent),
+    }
+}
+
+/// Takes the turn of a command, and answers.
+fn take_and_answer<T: Taker>(
+    alloc: Global,
+    taker: T,
+    request: &Request,
+    command: &Command,
+) -> (T, Result<Response, Stop>)
+    requires ready { T.ready taker }
+    requires reads { Reads request.now (Routed.Command command.now) }
+    ensures ready { T.ready result.0 }
+    ensures answered { IfOk result.1 (λ response. Exchanged T.turn taker request.now response result.0) }
+    ensures stopped { IfErr result.1 (λ stop. IsStopped T.turn T.spent taker request.now stop result.0) }
+{
+    changes_are_of_listed_forms();
+    let (taker, answer) = taker.take_turn(alloc, command);
+    let response = respond(alloc, request, &answer);
+    (taker, response)
+}
+
+/// Answers a request that was read.
+fn reply_to<T: Taker>(
+    alloc: Global,
+    taker: T,
+    request: &Request,
+    routed: &Routed,
+) -> (T, Result<Response, Stop>)
+    requires ready { T.ready taker }
+    requires reads { Reads request.now routed.now }
+    ensures ready { T.ready result.0 }
+    ensures answered { IfOk result.1 (λ response. Exchanged T.turn taker request.now response result.0) }
+    ensures stopped { IfErr result.1 (λ stop. IsStopped T.turn T.spent taker request.now stop result.0) }
+{
+    match routed {
+        Routed::Command(command) => take_and_answer(alloc, taker, request, command),
+        Routed::Refused(refusal) => (taker, refuse(alloc, request, refusal)),
+    }
+}
+
 impl<T: Taker> Replier for Serving<T> {
     ghost answers = { λ s q r t. Exchanged T.turn s.taker q r t.taker };
 
@@ -92,19 +160,10 @@ impl<T: Taker> Replier for Serving<T> {
 
     fn reply(self, alloc: Global, request: &Request) -> (Self, Result<Response, Stop>) {
         let Serving { taker } = self;
-        let command = match read_request(alloc, request) {
-            Ok(Routed::Command(command)) => command,
-            Ok(Routed::Refused(refusal)) => {
-                let refused = refuse(alloc, request, &refusal);
-                return (Serving { taker }, refused);
-            }
-            Err(_) => return (Serving { taker }, Err(Stop::NoMemory)),
+        let Ok(routed) = read_request(alloc, request) else {
+            return (Serving { taker }, Err(Stop::NoMemory));
         };
-        let (taker, answer) = taker.take_turn(alloc, &command);
-        let Some(answer) = answer else {
-            return (Serving { taker }, Err(Stop::Spent));
-        };
-        let answered = answer_with(alloc, request, &answer);
-        (Serving { taker }, answered)
+        let (taker, response) = reply_to(alloc, taker, request, &routed);
+        (Serving { taker }, response)
     }
 }

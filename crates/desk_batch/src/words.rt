@@ -1,6 +1,7 @@
 //! The words that a program is started with.
-ghost use Rattle.std.specs.Prelude.{◌≡◌, ◌↔◌, IsTrue};
-ghost use Rattle.desk_batch.specs.Words.{batch_trial, usage_line};
+ghost use Rattle.std.specs.Prelude.{◌≡◌, ◌↔◌, [], ◌∷◌, codes, IsTrue};
+ghost use Rattle.desk_batch.specs.RequestReading.{Finds};
+ghost use Rattle.desk_batch.specs.Words.{words_for, usage_line};
 
 use desk_io::Bytes;
 
@@ -23,12 +24,37 @@ fn is_word(word: &Word, wanted: &[u8]) -> bool
     word.as_slice() == wanted
 }
 
-/// Whether the words are `batch trial`.
-pub fn is_batch_trial(words: &[Word]) -> bool
-    ensures { IsTrue result ↔ (words.now ≡ batch_trial) }
+/// The tables that the program opens.
+#[derive(Clone, Copy, Debug)]
+pub enum Store {
+    Trial,
+    Empty,
+}
+
+fn store_named(word: &Word) -> Option<Store>
+    ensures { Finds (λ store. codes "batch" ∷ word.now ∷ [] ≡ words_for store) result }
+{
+    if is_word(word, b"trial") {
+        Some(Store::Trial)
+    } else if is_word(word, b"empty") {
+        Some(Store::Empty)
+    } else {
+        None
+    }
+}
+
+/// The store that is served with these words.
+pub(crate) fn store_of(words: &[Word]) -> Option<Store>
+    ensures { Finds (λ store. words.now ≡ words_for store) result }
 {
     match words {
-        [first, second] => is_word(first, b"batch") && is_word(second, b"trial"),
-        _ => false,
+        [first, second] => {
+            if is_word(first, b"batch") {
+                store_named(second)
+            } else {
+                None
+            }
+        }
+        _ => None,
     }
 }

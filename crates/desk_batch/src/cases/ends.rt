@@ -3,7 +3,7 @@ use crate::cases::runs::{LISTING, ROWS, Setting, TRIAL, gives};
 use std::test::Fail;
 
 /// What is not served, and ends the conversation.
-const CLOSED: &[u8] =
+pub const CLOSED: &[u8] =
     b"HTTP/1.1 501 Not Implemented\r\ncontent-type: application/json\r\ncontent-length: 21\r\nconnection: close\r\n\r\n{\"error\":\"not_built\"}";
 
 #[test]
@@ -35,7 +35,7 @@ fn a_rest_that_is_not_served_closes(rt: HostRuntime) -> Result<(), Fail> {
     let alloc = rt.alloc();
     let cases: [&[u8]; 4] = [
         b"\x00",
-        b"GET /groups/1/rows HTTP/1.1\r\nContent-Length: 5\r\n\r\nbody.",
+        b"GET /groups/1/rows HTTP/1.1\r\nContent-Length: 5x\r\n\r\nbody.",
         b"GET /groups/1/rows HTTP/1.1\r\nConnection: close\r\n\r\n",
         b"GET /groups/1/rows HTTP/1.0\r\n\r\n",
     ];

@@ -24,6 +24,31 @@ pub const TRIAL: Setting = Setting {
     room: 65536,
 };
 
+/// `batch empty`, and nothing fails.
+pub const EMPTY: Setting = Setting {
+    words: &["batch", "empty"],
+    ..TRIAL
+};
+
+/// A request and its response: the method and the target, the body that is sent, if any, and the status line's end and the
+/// body that come back.
+pub type Exchange<'a> = (&'a str, &'a str, &'a str, &'a str);
+
+/// The status of what was done.
+pub const OK: &str = "200 OK";
+
+/// What is answered where nothing is built.
+pub const NOT_BUILT: (&str, &str) = ("501 Not Implemented", "{\"error\":\"not_built\"}");
+
+/// A request with a body, or without one where it is empty.
+pub fn request(alloc: Global, asks: &str, body: &str) -> Result<String, Fail> {
+    if body.is_empty() {
+        return Ok(format!(in alloc; "{asks} HTTP/1.1\r\n\r\n")?);
+    }
+    let length = body.len();
+    Ok(format!(in alloc; "{asks} HTTP/1.1\r\ncontent-length: {length}\r\n\r\n{body}")?)
+}
+
 /// The response of a status line and a JSON body, in which the conversation goes on.
 pub fn response(alloc: Global, status: &str, body: &str) -> Result<String, Fail> {
     let length = body.len();
@@ -56,6 +81,30 @@ pub fn gives(
     Ok(())
 }
 
+/// Holds a conversation of these exchanges.
+pub fn holds(
+    rt: &impl Abort,
+    alloc: Global,
+    setting: Setting,
+    exchanges: &[Exchange],
+) -> Result<(), Fail> {
+    let mut input = String::new(alloc);
+    let mut output = String::new(alloc);
+    for (asks, body, status, given) in exchanges {
+        input.push_str(request(alloc, asks, body)?.as_str())?;
+        output.push_str(response(alloc, status, given)?.as_str())?;
+    }
+    gives(
+        rt,
+        alloc,
+        setting,
+        input.as_bytes(),
+        4096,
+        0,
+        output.as_bytes(),
+    )
+}
+
 pub const ROWS: &[u8] = b"GET /groups/1/rows HTTP/1.1\r\nHost: desk\r\n\r\n";
 
 pub const LISTING: &[u8] =
@@ -66,20 +115,21 @@ const USAGE: &[u8] =
 
 #[test]
 fn the_trial_listing(rt: HostRuntime) -> Result<(), Fail> {
-    gives(&rt, rt.alloc(), TRIAL, ROWS, 4096, 0, LISTING)?;
-    gives(&rt, rt.alloc(), TRIAL, b"", 4096, 0, b"")
-}
-
-#[test]
-fn two_requests_have_two_responses(rt: HostRuntime) -> Result<(), Fail> {
     let alloc = rt.alloc();
-    let input =
-        b"GET /nothing HTTP/1.1\r\n\r\nGET /groups/2/rows HTTP/1.1\r\nHost: desk\r\n\r\n".as_slice();
-    let first = response(alloc, "501 Not Implemented", "{\"error\":\"not_built\"}")?;
-    let body = "{\"key\":[2,0,0],\"refused\":\"unknown\",\"revision\":0,\"table\":\"group\"}";
-    let second = response(alloc, "404 Not Found", body)?;
-    let both = format!(in alloc; "{first}{second}")?;
-    gives(&rt, alloc, TRIAL, input, 4096, 0, both.as_bytes())
+    gives(&rt, alloc, TRIAL, ROWS, 4096, 0, LISTING)?;
+    gives(&rt, alloc, TRIAL, b"", 4096, 0, b"")?;
+    let exchanges = [
+        ("GET /nothing", "", NOT_BUILT.0, NOT_BUILT.1),
+        ("GET /revision", "", OK, "{\"revision\":0}"),
+        ("GET /revision?", "", NOT_BUILT.0, NOT_BUILT.1),
+        (
+            "GET /groups/2/rows",
+            "",
+            "404 Not Found",
+            "{\"key\":[2,0,0],\"refused\":\"unknown\",\"revision\":0,\"table\":\"group\"}",
+        ),
+    ];
+    holds(&rt, alloc, TRIAL, &exchanges)
 }
 
 #[test]
@@ -87,8 +137,8 @@ fn other_words_print_the_usage_line(rt: HostRuntime) -> Result<(), Fail> {
     let cases: [&'static [&'static str]; 4] = [
         &[],
         &["batch"],
-        &["batch", "empty"],
-        &["batch", "trial", "x"],
+        &["batch", "full"],
+        &["batch", "empty", "x"],
     ];
     for words in cases {
         let setting = Setting { words, ..TRIAL };

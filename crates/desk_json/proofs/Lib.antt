@@ -1,0 +1,14 @@
+-- Numbers and cursors as texts.
+mod DecimalLemmas
+mod PieceLemmas
+mod CursorLemmas
+mod CursorTexts
+-- Texts of answers.
+mod Runs
+mod Floats
+-- What bodies are read as.
+mod MomentReadings
+mod EachRead
+mod NamesAmong
+mod ParsedBodies
+pub mod AskedForms

@@ -1,0 +1,19 @@
+-- The definitions that contracts of this crate cite, each in the module of its subject.
+pub mod Words
+pub mod Values
+pub mod Decimals
+pub mod Cursors
+pub mod CursorReading
+pub mod Pages
+pub mod Receipts
+pub mod Refusals
+pub mod Answers
+pub mod Faults
+pub mod MomentReading
+pub mod Reading
+pub mod Lists
+pub mod Forms
+pub mod TreeReading
+pub mod RowForms
+pub mod Bodies
+pub mod Asked

@@ -1,0 +1,55 @@
+//! The JSON text of an answer.
+ghost use Rattle.std.specs.Prelude.{◌≡◌, IfOk};
+ghost use Rattle.serde_json.specs.View.{view};
+ghost use Rattle.desk_json.specs.Answers.{revision_data, reply_data, error_data, answer_data, answer_text};
+
+use crate::pages::page_value;
+use crate::receipts::receipt_value;
+use crate::refusals::refusal_value;
+use desk_base::{Answer, NoMemory, Outcome, Reply};
+use desk_io::Bytes;
+use serde_json::{Value, json};
+use std::alloc::{AllocError, Global};
+
+fn revision_value(alloc: Global, revision: u64) -> Result<Value, AllocError>
+    ensures { IfOk result (λ value. view value ≡ revision_data revision) }
+{
+    json!(in alloc; {"revision": revision})
+}
+
+fn error_value(alloc: Global, name: &str) -> Result<Value, AllocError>
+    ensures { IfOk result (λ value. view value ≡ error_data name.now) }
+{
+    json!(in alloc; {"error": name})
+}
+
+fn reply_value(alloc: Global, revision: u64, reply: &Reply) -> Result<Value, NoMemory>
+    ensures { IfOk result (λ value. view value ≡ reply_data revision reply.now) }
+{
+    match reply {
+        Reply::Change(receipt) => Ok(receipt_value(alloc, false, revision, receipt)?),
+        Reply::Rows(page) => page_value(alloc, revision, page),
+        Reply::Revision => Ok(revision_value(alloc, revision)?),
+    }
+}
+
+fn answer_value(alloc: Global, answer: &Answer) -> Result<Value, NoMemory>
+    ensures { IfOk result (λ value. view value ≡ answer_data answer.now) }
+{
+    let revision = answer.revision;
+    match &answer.outcome {
+        Outcome::Done(reply) => reply_value(alloc, revision, reply),
+        Outcome::Repeated(receipt) => Ok(receipt_value(alloc, true, revision, receipt)?),
+        Outcome::Refused(refusal) => Ok(refusal_value(alloc, revision, refusal)?),
+        Outcome::NoMemory => Ok(error_value(alloc, "no_memory")?),
+    }
+}
+
+/// The JSON text of an answer (RFC 8259): compact, with the names of each object in the order of their bytes.
+#[tactic(auto, unfolding(crate::specs::Answers::answer_text))]
+pub fn answer_text(alloc: Global, answer: &Answer) -> Result<Bytes, NoMemory>
+    ensures { IfOk result (λ text. text ≡ answer_text answer.now) }
+{
+    let value = answer_value(alloc, answer)?;
+    Ok(Bytes::from_vec(value.to_vec(alloc)?))
+}

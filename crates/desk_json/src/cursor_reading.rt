@@ -1,0 +1,130 @@
+//! A cursor read from its text.
+ghost use Rattle.std.specs.Prelude.{◌≡◌, ◌≤◌, map, decimal, All};
+ghost use Rattle.desk_base.specs.Limits.{revision_limit};
+ghost use Rattle.desk_json.specs.Cursors.{pick_text, cursor_text};
+ghost use Rattle.desk_json.specs.CursorReading.{IsMoment, IsPick, ArePicks, IsCursor, IsReading, cursor_pieces};
+
+use crate::decimals::{read_id, read_number};
+use crate::pieces::pieces_of;
+use desk_base::{Cursor, Items, Minute, NoMemory, Picks, Position, ResourceId};
+use std::alloc::{AllocError, Global};
+
+/// Why a text is not read as a cursor.
+#[derive(Clone, Copy, Debug, PartialEq, Eq)]
+pub enum CursorError {
+    /// It is the text of no cursor.
+    BadCursor,
+    NoMemory,
+}
+
+impl From<AllocError> for CursorError {
+    ghost use Rattle.std.specs.Prelude.{◌≡◌};
+    ghost use Rattle.desk_json.specs.declared.cursor_reading.CursorError.TheVariants as error;
+
+    ghost from_gives = { λ _ e. e ≡ error.NoMemory };
+
+    fn from(_error: AllocError) -> CursorError {
+        CursorError::NoMemory
+    }
+}
+
+impl From<NoMemory> for CursorError {
+    ghost use Rattle.std.specs.Prelude.{◌≡◌};
+    ghost use Rattle.desk_json.specs.declared.cursor_reading.CursorError.TheVariants as error;
+
+    ghost from_gives = { λ _ e. e ≡ error.NoMemory };
+
+    fn from(_error: NoMemory) -> CursorError {
+        CursorError::NoMemory
+    }
+}
+
+/// The greatest revision.
+const GREATEST_REVISION: u64 = 1_000_000_000_000_000;
+
+/// The leaves of a group.
+const MOST_LEAVES: usize = 12;
+
+fn read_revision(text: &[u8]) -> Result<u64, CursorError>
+    ensures { IsReading (λ n. n ≤ revision_limit) (λ n. decimal n) text.now result }
+{
+    let Some(number) = read_number(text) else {
+        return Err(CursorError::BadCursor);
+    };
+    if number <= GREATEST_REVISION {
+        Ok(number)
+    } else {
+        Err(CursorError::BadCursor)
+    }
+}
+
+fn read_start(text: &[u8]) -> Result<Minute, CursorError>
+    ensures { IsReading IsMoment (λ n. decimal n) text.now result }
+{
+    let Some(number) = read_number(text) else {
+        return Err(CursorError::BadCursor);
+    };
+    if number > u32::MAX as u64 {
+        return Err(CursorError::BadCursor);
+    }
+    match Minute::of(number as u32) {
+        Some(start) => Ok(start),
+        None => Err(CursorError::BadCursor),
+    }
+}
+
+fn read_pick(text: &[u8]) -> Result<Option<ResourceId>, CursorError>
+    ensures { IsReading IsPick pick_text text.now result }
+{
+    if text == b"-".as_slice() {
+        return Ok(None);
+    }
+    match read_id(text) {
+        Some(resource) => Ok(Some(resource)),
+        None => Err(CursorError::BadCursor),
+    }
+}
+
+fn read_each(alloc: Global, pieces: &[&[u8]]) -> Result<Picks, CursorError>
+    ensures { IsReading (All IsPick) (map pick_text) (map (λ piece. piece.now) pieces.now) result }
+{
+    let mut picks = Items::new(alloc);
+    for piece in pieces {
+        let pick = read_pick(piece)?;
+        picks.push(pick)?;
+    }
+    Ok(picks)
+}
+
+fn read_picks(alloc: Global, pieces: &[&[u8]]) -> Result<Picks, CursorError>
+    ensures { IsReading ArePicks (map pick_text) (map (λ piece. piece.now) pieces.now) result }
+{
+    if pieces.is_empty() || pieces.len() > MOST_LEAVES {
+        return Err(CursorError::BadCursor);
+    }
+    read_each(alloc, pieces)
+}
+
+fn read_pieces(alloc: Global, pieces: &[&[u8]]) -> Result<Cursor, CursorError>
+    ensures { IsReading IsCursor cursor_pieces (map (λ piece. piece.now) pieces.now) result }
+{
+    let [revision, start, picks @ ..] = pieces else {
+        return Err(CursorError::BadCursor);
+    };
+    let revision = read_revision(revision)?;
+    let start = read_start(start)?;
+    let picks = read_picks(alloc, picks)?;
+    Ok(Cursor {
+        revision,
+        position: Position { start, picks },
+    })
+}
+
+/// The cursor that is written so: the revision up to 10^15, the start as a minute of the horizon or its end, and 1 to 12
+/// picks, each `-` or an id. No number has a leading zero.
+pub fn read_cursor(alloc: Global, text: &[u8]) -> Result<Cursor, CursorError>
+    ensures { IsReading IsCursor cursor_text text.now result }
+{
+    let pieces = pieces_of(alloc, text, b'.')?;
+    read_pieces(alloc, pieces.as_slice())
+}

@@ -1,0 +1,24 @@
+//! Laws of cursors and of bodies: each is the contract of a function that does nothing.
+ghost use Rattle.std.specs.Prelude.{◌≡◌, ◌⊎◌, ◌<◌, ◌==◌, ℕ, false, Ok, All};
+ghost use Rattle.serde_json.specs.Data.{Data};
+ghost use Rattle.desk_base.specs.declared.searches.Cursor.{Cursor};
+ghost use Rattle.desk_base.specs.declared.answers.Command.{Command};
+ghost use Rattle.desk_json.specs.Cursors.{cursor_text};
+ghost use Rattle.desk_json.specs.CursorReading.{IsCursor};
+ghost use Rattle.desk_json.specs.Bodies.{change_in};
+ghost use Rattle.desk_json.specs.Asked.{IsAsked};
+
+/// A text is the text of one cursor.
+pub fn texts_have_one_cursor()
+    ensures { (c d : Cursor) → IsCursor c → IsCursor d → cursor_text c ≡ cursor_text d → c ≡ d }
+{}
+
+/// The text of a cursor has no bytes but digits, points and dashes.
+pub fn cursor_texts_are_plain()
+    ensures { (byte : ℕ) (c : Cursor) → (byte < 45) ⊎ (57 < byte) → IsCursor c → All (λ x. (x == byte) ≡ false) (cursor_text c) }
+{}
+
+/// What a body asks for is of the listed forms.
+pub fn changes_are_of_listed_forms()
+    ensures { (d : Data) (c : Command) → change_in d ≡ Ok c → IsAsked c }
+{}

@@ -1,0 +1,33 @@
+//! The JSON of the interface (RFC 8259): what a body of a change asks for, and the texts of answers and of cursors.
+#![tactic(auto)]
+
+mod acts;
+mod answers;
+mod bodies;
+#[cfg(test)]
+mod cases;
+mod cursor_reading;
+mod cursors;
+mod decimals;
+mod faults;
+mod fields;
+pub mod laws;
+mod lists;
+mod moments;
+mod pages;
+mod pieces;
+mod reading;
+mod receipts;
+mod refusals;
+mod rows;
+mod trees;
+mod values;
+mod words;
+
+pub use answers::answer_text;
+pub use bodies::read_change;
+pub use cursor_reading::{CursorError, read_cursor};
+pub use cursors::{cursor_text, position_text};
+pub use decimals::{read_id, read_number};
+pub use faults::{BodyError, BodyRule};
+pub use pieces::pieces_of;

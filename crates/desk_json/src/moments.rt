@@ -1,0 +1,24 @@
+//! Moments as JSON.
+ghost use Rattle.std.specs.Prelude.{◌≡◌, IfOk, string_bytes, IsAscii};
+ghost use Rattle.serde_json.specs.View.{view};
+ghost use Rattle.desk_json.specs.Values.{moment_data};
+
+use desk_base::Minute;
+use desk_time::moment_text;
+use serde_json::Value;
+use std::alloc::{AllocError, Global};
+
+fn text_of(alloc: Global, bytes: &[u8]) -> Result<String, AllocError>
+    requires { IsAscii bytes.now }
+    ensures { IfOk result (λ text. string_bytes text ≡ bytes.now) }
+{
+    String::from_str(alloc, std::str::from_utf8(bytes).unwrap())
+}
+
+/// The text of a moment, as a JSON string.
+pub(crate) fn moment_value(alloc: Global, minute: Minute) -> Result<Value, AllocError>
+    ensures { IfOk result (λ value. view value ≡ moment_data minute) }
+{
+    let bytes = moment_text(minute.get());
+    Ok(Value::String(text_of(alloc, &bytes)?))
+}
