@@ -9,7 +9,11 @@ trap 'rm -f "$input"' EXIT
 for _ in $(seq "$requests"); do
   printf 'GET /groups/1/rows?limit=4&after=0.28935900.2 HTTP/1.1\r\nHost: desk\r\n\r\n'
 done > "$input"
-start=$(date +%s%N)
-answers=$("$program" batch trial < "$input" | grep -c '200 OK')
-end=$(date +%s%N)
-echo "$answers pages in $(((end - start) / 1000000)) ms"
+. "$(dirname "$0")/timing.sh"
+output=$input.answers
+trap 'rm -f "$input" "$output"' EXIT
+answer() {
+  "$program" batch trial < "$input" > "$output"
+}
+took=$(milliseconds answer)
+echo "$(grep -c '200 OK' "$output") pages in $took ms"

@@ -7,15 +7,9 @@ queries=${1:-10000000}
 pieces=${2:-10000}
 rounds=${3:-100}
 program=crates/desk_spans_bench/out/desk_spans_bench
-milliseconds() {
-  local start end
-  start=$(date +%s%N)
-  "$program" "$@" > /dev/null
-  end=$(date +%s%N)
-  echo $(((end - start) / 1000000))
-}
-idle=$(milliseconds 0 1 0)
-asked=$(($(milliseconds "$queries" 1 0) - idle))
-built=$(($(milliseconds 0 "$pieces" "$rounds") - idle))
+. "$(dirname "$0")/timing.sh"
+idle=$(milliseconds "$program" 0 1 0)
+asked=$(($(milliseconds "$program" "$queries" 1 0) - idle))
+built=$(($(milliseconds "$program" 0 "$pieces" "$rounds") - idle))
 echo "$queries queries of a profile of 1,000 changes: $asked ms, $((queries / (asked + 1))) a millisecond"
 echo "$rounds profiles of $pieces pieces: $built ms, $((built * 1000 / rounds)) microseconds each"
