@@ -20,7 +20,7 @@ use Rattle.desk_base.specs.Steps.{others_of}
 use Rattle.desk_base.specs.Sound.{IsSound, IsBooked, bookings_of}
 use Rattle.desk_base.proofs.Members.{IsIn, in_from_contains, contains_from_in}
 use Rattle.desk_base.proofs.Tests.{find_cases}
-use Rattle.desk_base.proofs.Sounds.{keys_rise}
+use Rattle.desk_base.proofs.Sounds.{keys_rise, well_formed}
 use Rattle.desk_base.proofs.TakenRows.{one_row}
 use Rattle.desk_base.proofs.NewBookings.{one_of, few_choices, length-bookings_from, asks_from, asks_at_leaf, bookings_rise, new_fields, new_citations}
 use Rattle.desk_base.proofs.SoundBookings.{AreNew}
@@ -59,8 +59,8 @@ module _ (t : Tables) (id s : ℕ) (picks : List (Option ℕ)) (g : GroupRow) (f
         above = λ b i. let h = one_of g s first choices b i in let number = ap (λ (x : BookingRow). x.id) h.row in omega (arith, h.low, number);
         within = λ b i. let h = one_of g s first choices b i in let number = ap (λ (x : BookingRow). x.id) h.row in omega (arith, h.high, number, same);
         group = λ b i. ap (λ (x : BookingRow). x.group) (one_of g s first choices b i).row ∙ group.1;
-        field = new_fields t g sound there first s picks;
-        citation = new_citations t g sound there first s picks known;
+        field = new_fields t g (well_formed t sound) there first s picks;
+        citation = new_citations t g (well_formed t sound) there first s picks known;
       }
 
   module _ (feasible : IsFeasible t g s picks) where
@@ -70,13 +70,13 @@ module _ (t : Tables) (id s : ℕ) (picks : List (Option ℕ)) (g : GroupRow) (f
         let number = (group_found t id g found).1 in
         let new = asks_from g s (t.last_booking + 1) (choices_of 0 g.leaves picks) in
         let together : other_asks t g ++ asks_for g s picks ≡ map ask_of (others_of t id) ++ map ask_of (bookings_for t g s picks) = λ i. map ask_of (others_of t (number i)) ++ sym new i in
-        subst (Fits t) (together ∙ sym (map-append ask_of (others_of t id) (bookings_for t g s picks))) feasible.consistent.fits
+        subst (Fits t) (together ∙ sym (map-append ask_of (others_of t id) (bookings_for t g s picks))) feasible.fits
 
     booked_whole : (u : Tables) → bookings_of u g ≡ bookings_for t g s picks → IsBooked u g
     booked_whole u e = record {
       start = s;
       picks = picks;
-      grid = feasible.consistent.grid;
+      grid = feasible.grid;
       pattern = feasible.pattern;
       each = λ j. ap (λ l. map ask_of (filter (λ (b : BookingRow). b.leaf == j) l)) e ∙ asks_at_leaf g s j (t.last_booking + 1) (choices_of 0 g.leaves picks);
     }

@@ -18,16 +18,17 @@ use Rattle.desk_base.specs.Rows.{rows_in, key_of, keys_in, citations_of}
 use Rattle.desk_base.specs.Lookups.{keys_by}
 use Rattle.desk_base.specs.TreeRules.{tree_fault}
 use Rattle.desk_base.specs.Fields.{is_within_range, leaf_rules, join_rules, group_rules}
+use Rattle.desk_base.specs.Time.{leaf_time}
 use Rattle.desk_base.specs.Load.{ask_of}
 use Rattle.desk_base.specs.Picks.{Choice, choices_of}
 use Rattle.desk_base.specs.Listing.{ask_for}
 use Rattle.desk_base.specs.Refusing.{is_there, picked}
 use Rattle.desk_base.specs.Acts.{bookings_from}
-use Rattle.desk_base.specs.Sound.{IsSound, keeps_fields}
+use Rattle.desk_base.specs.Sound.{AreWellFormed, keeps_fields}
 use Rattle.desk_base.proofs.Members.{IsIn, all_at, all_from, in_left, in_right, in-map, in_mapped, in_from_contains}
-use Rattle.desk_base.proofs.Tests.{and_left, list_all_at}
+use Rattle.desk_base.proofs.Tests.{and_left, and_right, list_all_at}
 use Rattle.desk_base.proofs.Patterns.{nat_cmp-less, then-less}
-use Rattle.desk_base.proofs.Sounds.{group_kept}
+use Rattle.desk_base.proofs.Sounds.{group_keeps}
 use Rattle.desk_base.proofs.Shapes.{rules_kept, none_from}
 use Rattle.desk_base.proofs.Suits.{key_there}
 
@@ -51,7 +52,7 @@ few_choices i (l ∷ ls) (Some r ∷ picks) = let h = few_choices (i + 1) ls pic
 
 -- the booking of a choice, with this number
 abbrev pub booking_of : ℕ → GroupRow → ℕ → Choice → BookingRow
-booking_of n g s c = record { id = n; group = g.id; leaf = c.number; resource = c.resource; from = s; to = s + c.leaf.duration; effort = c.leaf.effort }
+booking_of n g s c = record { id = n; group = g.id; leaf = c.number; resource = c.resource; from = (leaf_time c.leaf s).from; to = (leaf_time c.leaf s).to; effort = c.leaf.effort }
 
 -- it is the booking of one of the choices, numbered from n on
 pub record IsOneOf (n : ℕ) (g : GroupRow) (s : ℕ) (choices : List Choice) (b : BookingRow) : Type 0 where
@@ -114,12 +115,16 @@ in_joined (m ∷ leaves) l rule (inr i) j = in_right rule (leaf_rules m) (join_r
 after_start : (s d : ℕ) → is_within_range 1 duration_limit d ≡ true → nat_lt s (s + d) ≡ true
 after_start s d h = let e = and_left (nat_le 1 d) (nat_le d duration_limit) h in grind (arith, nat_tests)
 
-module _ (t : Tables) (g : GroupRow) (sound : IsSound t) (there : Contains t.groups g) where
+module _ (t : Tables) (g : GroupRow) (formed : AreWellFormed t) (there : Contains t.groups g) where
   leaf_keeps : (l : Leaf) (rule : Bool × Field) → IsIn l g.leaves → IsIn rule (leaf_rules l) → rule.0 ≡ true
   leaf_keeps l rule i j =
-      let kept = and_left (is_none (first_broken (group_rules g))) (is_none (tree_fault g.nodes (length g.leaves))) (group_kept t g sound there) in
+      let kept = and_left (is_none (first_broken (group_rules g))) (is_none (tree_fault g.nodes (length g.leaves))) (group_keeps t g formed.field there) in
       let rules = rules_kept (group_rules g) (none_from (first_broken (group_rules g)) kept) in
       all_at (λ (x : Bool × Field). x.0 ≡ true) (join_rules leaf_rules g.leaves) rule rules.1.1.1 (in_joined g.leaves l rule i j)
+
+  -- no leaf asks for more than the greatest effort
+  pub leaf_light : (l : Leaf) → IsIn l g.leaves → l.effort ≤ effort_limit
+  leaf_light l i = let e = and_right (nat_le 1 l.effort) (nat_le l.effort effort_limit) (leaf_keeps l (is_within_range 1 effort_limit l.effort, Effort) i (inr (inr (inl refl)))) in grind (arith, nat_tests)
 
   module _ (n s : ℕ) (picks : List (Option ℕ)) where
     -- each is within the ranges of its fields
@@ -128,8 +133,8 @@ module _ (t : Tables) (g : GroupRow) (sound : IsSound t) (there : Contains t.gro
         let h = one_of g s n (choices_of 0 g.leaves picks) b i in
         let l = h.choice.leaf in
         let of_group = (choice_from 0 g.leaves picks h.choice h.chosen).0 in
-        let long = after_start s l.duration (leaf_keeps l (is_within_range 1 duration_limit l.duration, Duration) of_group (inl refl)) in
-        let effort = leaf_keeps l (is_within_range 1 effort_limit l.effort, Effort) of_group (inr (inl refl)) in
+        let long = after_start (s + l.offset) l.duration (leaf_keeps l (is_within_range 1 duration_limit l.duration, Duration) of_group (inl refl)) in
+        let effort = leaf_keeps l (is_within_range 1 effort_limit l.effort, Effort) of_group (inr (inr (inl refl))) in
         subst (λ d. keeps_fields t (Booking d) ≡ true) (sym h.row) (λ j. is_none (cond (long j) (cond (effort j) None (Some Effort)) (Some To)) && true)
 
     -- each names its group and a resource, which are there

@@ -88,13 +88,11 @@ prefix_live t g o s ps qs some h =
     let c = choices_prefix 0 g.leaves ps qs in
     let new : asks_for g s (ps ++ qs) ≡ asks_for g s ps ++ map (ask_for s) c.0 = ap (map (ask_for s)) c.1 ∙ map-append (ask_for s) (choices_of 0 g.leaves ps) c.0 in
     record {
-      consistent = record {
-        grid = h.consistent.grid;
-        serve = all_prefix (serves t g s) (choices_of 0 g.leaves ps) c.0 (sym (ap (list_all (serves t g s)) c.1) ∙ h.consistent.serve);
-        same = same_prefix t s g.nodes g.leaves ps qs h.consistent.same;
-        fits = Fits-fewer t (other_asks t g ++ asks_for g s ps) (other_asks t g ++ asks_for g s (ps ++ qs))
-            (subst (λ l. AreFewer (other_asks t g ++ asks_for g s ps) (other_asks t g ++ l)) (sym new) (fewer_new (other_asks t g) (asks_for g s ps) (map (ask_for s) c.0))) h.consistent.fits;
-      };
+      grid = h.grid;
+      serve = all_prefix (serves t g s) (choices_of 0 g.leaves ps) c.0 (sym (ap (list_all (serves t g s)) c.1) ∙ h.serve);
+      same = same_prefix t s g.nodes g.leaves ps qs h.same;
+      fits = Fits-fewer t (other_asks t g ++ asks_for g s ps) (other_asks t g ++ asks_for g s (ps ++ qs))
+          (subst (λ l. AreFewer (other_asks t g ++ asks_for g s ps) (other_asks t g ++ l)) (sym new) (fewer_new (other_asks t g) (asks_for g s ps) (map (ask_for s) c.0))) h.fits;
       within = h.within;
       has_pick = some;
       pattern = (pattern_of qs ++ h.pattern.0, subst (Contains (patterns (tree_of g.nodes))) (ap (λ l. l ++ h.pattern.0) (map-append is_some ps qs) ∙ append_assoc (pattern_of ps) (pattern_of qs) h.pattern.0) h.pattern.1);

@@ -15,10 +15,12 @@ use Rattle.desk_base.specs.Fields.{group_rules}
 use Rattle.desk_base.specs.declared.tables.Table.TheVariants.{Booking as BookingTable}
 use Rattle.desk_base.specs.declared.tables.AnyRow.TheVariants.{Booking}
 use Rattle.desk_base.specs.Rows.{key_of}
-use Rattle.desk_base.specs.Sound.{IsSound}
+use Rattle.desk_base.specs.Limits.{window_limit, least_step, minutes_a_day, node_limit}
+use Rattle.desk_base.specs.TableLimits.{limit_of}
+use Rattle.desk_base.specs.Sound.{IsSound, AreWellFormed}
 use Rattle.desk_base.specs.Listing.{IsSoundGroup}
 use Rattle.desk_base.proofs.Tests.{and_left, and_right}
-use Rattle.desk_base.proofs.Sounds.{group_kept, few_keys}
+use Rattle.desk_base.proofs.Sounds.{group_keeps, few_keys}
 use Rattle.std.proofs.lemmas.List.{length-map}
 
 -- the leaves of some trees in a row
@@ -166,20 +168,20 @@ pub none_from : {A : Type 0} (o : Option A) → is_none o ≡ true → o ≡ Non
 none_from None e = refl
 none_from (Some x) e = absurd (false≢true e)
 
--- the fields and the tree of a group of sound tables
-group_fields : (t : Tables) (g : GroupRow) → IsSound t → Contains t.groups g → first_broken (group_rules g) ≡ None
-group_fields t g s c = none_from (first_broken (group_rules g)) (and_left (is_none (first_broken (group_rules g))) (is_none (tree_fault g.nodes (length g.leaves))) (group_kept t g s c))
+-- the fields and the tree of a group of well-formed tables
+group_fields : (t : Tables) (g : GroupRow) → AreWellFormed t → Contains t.groups g → first_broken (group_rules g) ≡ None
+group_fields t g s c = none_from (first_broken (group_rules g)) (and_left (is_none (first_broken (group_rules g))) (is_none (tree_fault g.nodes (length g.leaves))) (group_keeps t g s.field c))
 
-group_tree : (t : Tables) (g : GroupRow) → IsSound t → Contains t.groups g → tree_fault g.nodes (length g.leaves) ≡ None
-group_tree t g s c = none_from (tree_fault g.nodes (length g.leaves)) (and_right (is_none (first_broken (group_rules g))) (is_none (tree_fault g.nodes (length g.leaves))) (group_kept t g s c))
+group_tree : (t : Tables) (g : GroupRow) → AreWellFormed t → Contains t.groups g → tree_fault g.nodes (length g.leaves) ≡ None
+group_tree t g s c = none_from (tree_fault g.nodes (length g.leaves)) (and_right (is_none (first_broken (group_rules g))) (is_none (tree_fault g.nodes (length g.leaves))) (group_keeps t g s.field c))
 
--- a group of sound tables
-pub sound_group : (t : Tables) (g : GroupRow) → IsSound t → Contains t.groups g → IsSoundGroup g
+-- a group of well-formed tables
+pub sound_group : (t : Tables) (g : GroupRow) → AreWellFormed t → Contains t.groups g → IsSoundGroup g
 sound_group t g s c =
     let fault = group_tree t g s c in
     let k = rules_kept (group_rules g) (group_fields t g s c) in
-    let w = and_left (nat_lt g.from g.to) (nat_le (g.to - g.from) 129600) k.1.0 in
-    let p = and_left (nat_le 5 g.step) (nat_le g.step 1440) k.1.1.0 in
+    let w = and_left (nat_lt g.from g.to) (nat_le (g.to - g.from) window_limit) k.1.0 in
+    let p = and_left (nat_le least_step g.step) (nat_le g.step minutes_a_day) k.1.1.0 in
     record {
       leaves = leaves_from_rules g.nodes (length g.leaves) fault;
       some = some_from_rules g.nodes (length g.leaves) fault;
@@ -187,13 +189,13 @@ sound_group t g s c =
       window = grind (arith, nat_tests);
     }
 
-pub few_bookings : (t : Tables) → IsSound t → length t.bookings ≤ 200000
+pub few_bookings : (t : Tables) → IsSound t → length t.bookings ≤ limit_of BookingTable
 few_bookings t s =
     let h = few_keys t BookingTable s in
     let a = length-map (map Booking t.bookings) key_of in
     let b = length-map t.bookings Booking in omega arith
 
-few_nodes : (size i leaves : ℕ) (before : Option Node) (n : Node) (ns : List Node) → node_fault size i leaves before (n ∷ ns) ≡ None → i + length (n ∷ ns) ≤ 32
+few_nodes : (size i leaves : ℕ) (before : Option Node) (n : Node) (ns : List Node) → node_fault size i leaves before (n ∷ ns) ≡ None → i + length (n ∷ ns) ≤ node_limit
 few_nodes size i leaves before n [] e =
     let f = fault_none (first_broken (node_rules i leaves before n [])) i (node_fault size (i + 1) (leaves + leaf_bit n) (Some n) []) e in
     let b = (rules_kept (node_rules i leaves before n []) f.0).0 in grind (arith, nat_tests)
@@ -210,19 +212,19 @@ leaf_nodes-le : (ns : List Node) → leaf_nodes ns ≤ length ns
 leaf_nodes-le [] = omega arith
 leaf_nodes-le (n ∷ ns) = let a = leaf_bit-le n.kind in let b = leaf_nodes-le ns in omega arith
 
-few_from_rules : (nodes : List Node) (size : ℕ) → tree_fault nodes size ≡ None → size ≤ 32
+few_from_rules : (nodes : List Node) (size : ℕ) → tree_fault nodes size ≡ None → size ≤ node_limit
 few_from_rules [] size e = absurd (false≢true (ap is_none e))
 few_from_rules (n ∷ ns) size e =
     let r = ordered_from size 0 0 None (n ∷ ns) e in
     let a = leaf_nodes-le (n ∷ ns) in
     let b = few_nodes size 0 0 None n ns e in omega (arith, r.1)
 
-few_of_rules : (nodes : List Node) (size : ℕ) → tree_fault nodes size ≡ None → length nodes ≤ 32
+few_of_rules : (nodes : List Node) (size : ℕ) → tree_fault nodes size ≡ None → length nodes ≤ node_limit
 few_of_rules [] size e = omega arith
 few_of_rules (n ∷ ns) size e = omega (arith, few_nodes size 0 0 None n ns e)
 
-pub few_leaves : (t : Tables) (g : GroupRow) → IsSound t → Contains t.groups g → length g.leaves ≤ 32
+pub few_leaves : (t : Tables) (g : GroupRow) → AreWellFormed t → Contains t.groups g → length g.leaves ≤ node_limit
 few_leaves t g s c = few_from_rules g.nodes (length g.leaves) (group_tree t g s c)
 
-pub few_nodes_of : (t : Tables) (g : GroupRow) → IsSound t → Contains t.groups g → length g.nodes ≤ 32
+pub few_nodes_of : (t : Tables) (g : GroupRow) → AreWellFormed t → Contains t.groups g → length g.nodes ≤ node_limit
 few_nodes_of t g s c = few_of_rules g.nodes (length g.leaves) (group_tree t g s c)

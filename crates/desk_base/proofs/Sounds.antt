@@ -1,5 +1,6 @@
 -- What sound tables give, and what makes tables sound.
-use Rattle.std.proofs.Common.{◌≡◌, ◌≢◌, ℕ, zero, suc, ◌<◌, ◌≤◌, Bool, true, ◌&&◌, ◌==◌, List, [], ◌∷◌, ◌++◌, map, length, ◌⊎◌, inl, inr, refl, sym, ap, ◌∙◌, subst, arith, length-append}
+use Rattle.std.proofs.Common.{◌≡◌, ◌≢◌, ℕ, zero, suc, ◌<◌, ◌≤◌, Bool, true, ◌&&◌, ◌==◌, List, [], ◌∷◌, ◌++◌, map, length, ◌⊎◌, inl, inr, refl, sym, ap, ◌∙◌, subst, ◌*◌, arith, length-append}
+use Rattle.std.proofs.lemmas.List.{length-map}
 use Rattle.std.proofs.lemmas.Bool.{false≢true}
 use Rattle.std.proofs.lemmas.Bool.Decides.{nat_tests}
 use Rattle.std.proofs.lemmas.Cmp.{nat_cmp_total, on_total, then_total}
@@ -18,7 +19,7 @@ use Rattle.desk_base.specs.Keys.{table_number, key_cmp, id_key}
 use Rattle.desk_base.specs.TableLimits.{limit_of}
 use Rattle.desk_base.specs.Rows.{rows_in, key_of, keys_in, citations_of}
 use Rattle.desk_base.specs.Load.{Fits, ask_of}
-use Rattle.desk_base.specs.Sound.{Keeps, IsSound, IsBooked, keeps_fields, bookings_of, is_counted}
+use Rattle.desk_base.specs.Sound.{Keeps, IsSound, AreWellFormed, taken_limit_of, IsBooked, keeps_fields, bookings_of, is_counted}
 use Rattle.desk_base.proofs.Members.{IsIn, all_at, all_from, in-map, in_mapped, in_right, in_from_contains, contains_from_in}
 use Rattle.desk_base.proofs.Tests.{and_left, and_right, list_all_at, list_any_at}
 
@@ -75,10 +76,13 @@ adjacent (x ∷ before) after j k s = adjacent before after j k s.1
 
 -- ---- what sound tables give
 
-pub keys_rise : (t : Tables) (table : Table) → IsSound t → IsStrictlySortedBy key_cmp (keys_in t table)
-keys_rise t table s = rising_from (keys_in t table) (λ before after j k e.
+pub keys_in_order : (t : Tables) (table : Table) → ((k : Key) → Keeps Order t k) → IsStrictlySortedBy key_cmp (keys_in t table)
+keys_in_order t table keeps = rising_from (keys_in t table) (λ before after j k e.
     let here : IsIn k (keys_in t table) = subst (IsIn k) (sym e) (in_right k before (j ∷ k ∷ after) (inr (inl refl))) in
-    s.keeps Order k before after j (ap (keys_in t) (key_table t table k here) ∙ e))
+    keeps k before after j (ap (keys_in t) (key_table t table k here) ∙ e))
+
+pub keys_rise : (t : Tables) (table : Table) → IsSound t → IsStrictlySortedBy key_cmp (keys_in t table)
+keys_rise t table s = keys_in_order t table (s.keeps Order)
 
 then_equal : (r : Ordering) → ordering_then r Equal ≡ Less → r ≡ Less
 then_equal Less e = refl
@@ -120,8 +124,46 @@ few_keys t table s = elim (le_or (length (keys_in t table)) (limit_of table)) [
 pub bookings_fit : (t : Tables) → IsSound t → Fits t (map ask_of t.bookings)
 bookings_fit t s = record { at = λ r m i. s.keeps FitsRule (id_key ResourceTable r) refl m i }
 
+pub group_keeps : (t : Tables) (g : GroupRow) → ((k : Key) → Keeps Field t k) → Contains t.groups g → keeps_fields t (Group g) ≡ true
+group_keeps t g keeps c = keeps (id_key GroupTable g.id) (Group g) (contains_from_in (map Group t.groups) (Group g) (in_mapped Group g t.groups (in_from_contains t.groups g c))) refl
+
 pub group_kept : (t : Tables) (g : GroupRow) → IsSound t → Contains t.groups g → keeps_fields t (Group g) ≡ true
-group_kept t g s c = s.keeps Field (id_key GroupTable g.id) (Group g) (contains_from_in (map Group t.groups) (Group g) (in_mapped Group g t.groups (in_from_contains t.groups g c))) refl
+group_kept t g s c = group_keeps t g (s.keeps Field) c
+
+-- ---- sound tables are well formed
+
+ten_times : (m n : ℕ) → m ≤ n → m ≤ 10 * n
+ten_times m n h = omega (arith, h)
+
+enough_taken : (table : Table) (n : ℕ) → n ≤ limit_of table → n ≤ taken_limit_of table
+enough_taken ZoneTable n h = h
+enough_taken CalendarTable n h = h
+enough_taken WorkTable n h = h
+enough_taken BreakTable n h = h
+enough_taken DayTable n h = h
+enough_taken OffTable n h = ten_times n (limit_of OffTable) h
+enough_taken UnitTable n h = h
+enough_taken SiteTable n h = h
+enough_taken RoleTable n h = h
+enough_taken CharacteristicTable n h = h
+enough_taken TerritoryTable n h = h
+enough_taken ResourceTable n h = h
+enough_taken HasRoleTable n h = h
+enough_taken HasCharacteristicTable n h = h
+enough_taken HasTerritoryTable n h = h
+enough_taken MemberTable n h = h
+enough_taken GroupTable n h = h
+enough_taken BookingTable n h = ten_times n (limit_of BookingTable) h
+enough_taken CallerTable n h = h
+enough_taken BookingNumbers n h = h
+
+pub well_formed : (t : Tables) → IsSound t → AreWellFormed t
+well_formed t s = record {
+  order = s.keeps Order;
+  limit = λ table. enough_taken table (length (rows_in t table)) (subst (λ n. n ≤ limit_of table) (length-map (rows_in t table) key_of) (few_keys t table s));
+  field = s.keeps Field;
+  citation = s.keeps Citation;
+}
 
 -- ---- what makes tables sound
 

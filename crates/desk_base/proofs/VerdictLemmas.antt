@@ -73,7 +73,7 @@ module _ (t : Tables) (g : GroupRow) (s : ℕ) (picks : List (Option ℕ)) where
   on_grid (NotEligible j r broken) h l = h.0.grid
   on_grid (NotSame node) h l = h.0.shape.grid
   on_grid Unfit h l = h.0.shape.grid
-  on_grid Feasible h l = h.consistent.grid
+  on_grid Feasible h l = h.grid
 
   has_shape : (v : Verdict) → IsVerdict t g s picks v → 1 < place v → HasShape g s picks
   has_shape OffGrid h l = absurd (omega (arith, l))
@@ -81,7 +81,7 @@ module _ (t : Tables) (g : GroupRow) (s : ℕ) (picks : List (Option ℕ)) where
   has_shape (NotEligible j r broken) h l = h.0
   has_shape (NotSame node) h l = h.0.shape
   has_shape Unfit h l = h.0.shape
-  has_shape Feasible h l = record { grid = h.consistent.grid; pattern = h.pattern }
+  has_shape Feasible h l = record { grid = h.grid; pattern = h.pattern }
 
   is_served : (v : Verdict) → IsVerdict t g s picks v → 2 < place v → list_all (serves t g s) (choices_of 0 g.leaves picks) ≡ true
   is_served OffGrid h l = absurd (omega (arith, l))
@@ -89,7 +89,7 @@ module _ (t : Tables) (g : GroupRow) (s : ℕ) (picks : List (Option ℕ)) where
   is_served (NotEligible j r broken) h l = absurd (omega (arith, l))
   is_served (NotSame node) h l = h.0.serve
   is_served Unfit h l = h.0.serve
-  is_served Feasible h l = h.consistent.serve
+  is_served Feasible h l = h.serve
 
   keeps_all_same : (v : Verdict) → IsVerdict t g s picks v → 3 < place v → first_broken_same t s g.nodes g.leaves picks ≡ None
   keeps_all_same OffGrid h l = absurd (omega (arith, l))
@@ -97,7 +97,7 @@ module _ (t : Tables) (g : GroupRow) (s : ℕ) (picks : List (Option ℕ)) where
   keeps_all_same (NotEligible j r broken) h l = absurd (omega (arith, l))
   keeps_all_same (NotSame node) h l = absurd (omega (arith, l))
   keeps_all_same Unfit h l = h.1
-  keeps_all_same Feasible h l = h.consistent.same
+  keeps_all_same Feasible h l = h.same
 
   fits : (v : Verdict) → IsVerdict t g s picks v → 4 < place v → Fits t (other_asks t g ++ asks_for g s picks)
   fits OffGrid h l = absurd (omega (arith, l))
@@ -105,7 +105,7 @@ module _ (t : Tables) (g : GroupRow) (s : ℕ) (picks : List (Option ℕ)) where
   fits (NotEligible j r broken) h l = absurd (omega (arith, l))
   fits (NotSame node) h l = absurd (omega (arith, l))
   fits Unfit h l = absurd (omega (arith, l))
-  fits Feasible h l = h.consistent.fits
+  fits Feasible h l = h.fits
 
   below_last : (w : Verdict) → 5 < place w → ⊥
   below_last OffGrid l = omega (arith, l)

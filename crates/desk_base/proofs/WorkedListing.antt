@@ -7,7 +7,7 @@ use Rattle.desk_base.specs.Eligible.{first_broken_rule}
 use Rattle.desk_base.specs.Load.{room, own_load, plain_load, load}
 use Rattle.desk_base.specs.Picks.{keeps_same}
 use Rattle.desk_base.specs.Order.{found_cmp}
-use Rattle.desk_base.specs.Page.{page_of}
+use Rattle.desk_base.specs.Page.{beginning, page_of}
 use Rattle.desk_base.specs.Positions.{position_at}
 use Rattle.desk_base.specs.Trial.{trial, trial_group}
 use Rattle.desk_base.proofs.WorkedParts.{monday, row, rows_at}
@@ -34,13 +34,13 @@ abbrev ten_positions : List Position
 ten_positions = map (λ f. position_at f.start f.picks) ten
 
 -- a page of at most four rows goes on after the fourth
-first_page : page_of 1 None 4 ten_positions ≡ record { rows = take 4 ten; next = Some (position_at (monday 9 0) (Some 2 ∷ [])); end = false }
+first_page : page_of 1 None beginning 4 ten_positions ≡ record { rows = take 4 ten; next = Some (position_at (monday 9 0) (Some 2 ∷ [])); shown = None; end = false }
 first_page = refl
 
 -- after the eighth two are left, and the page is the last
-last_page : page_of 1 (Some (position_at (monday 11 0) (Some 1 ∷ []))) 4 (drop 8 ten_positions) ≡ record { rows = drop 8 ten; next = Some (position_at (monday 11 0) (Some 3 ∷ [])); end = true }
+last_page : page_of 1 None (record { after = Some (position_at (monday 11 0) (Some 1 ∷ [])); shown = 0 }) 4 (drop 8 ten_positions) ≡ record { rows = drop 8 ten; next = Some (position_at (monday 11 0) (Some 3 ∷ [])); shown = None; end = true }
 last_page = refl
 
 -- after the last there is none, and `next` stays
-no_page : page_of 1 (Some (position_at (monday 11 0) (Some 3 ∷ []))) 4 [] ≡ record { rows = []; next = Some (position_at (monday 11 0) (Some 3 ∷ [])); end = true }
+no_page : page_of 1 None (record { after = Some (position_at (monday 11 0) (Some 3 ∷ [])); shown = 0 }) 4 [] ≡ record { rows = []; next = Some (position_at (monday 11 0) (Some 3 ∷ [])); shown = None; end = true }
 no_page = refl

@@ -11,15 +11,16 @@ use Rattle.desk_base.specs.declared.changes.Act.TheVariants as act
 use Rattle.desk_base.specs.declared.changes.Call.{Call}
 use Rattle.desk_base.specs.declared.changes.Change.{Change}
 use Rattle.desk_base.specs.Keys.{id_key}
+use Rattle.desk_base.specs.Time.{leaf_time}
 use Rattle.desk_base.specs.Picks.{Choice, choices_of}
 use Rattle.desk_base.specs.Groups.{group_of, booked_for, effort_minutes}
 use Rattle.desk_base.specs.Changes.{with_change}
 
--- one booking for each chosen leaf, from s on, in the order of the leaves, numbered from n on
+-- one booking for each chosen leaf over its time at s, in the order of the leaves, numbered from n on
 abbrev pub bookings_from : ℕ → GroupRow → ℕ → List Choice → List BookingRow
 bookings_from n g s [] = []
 bookings_from n g s (c ∷ cs) =
-    record { id = n; group = g.id; leaf = c.number; resource = c.resource; from = s; to = s + c.leaf.duration; effort = c.leaf.effort }
+    record { id = n; group = g.id; leaf = c.number; resource = c.resource; from = (leaf_time c.leaf s).from; to = (leaf_time c.leaf s).to; effort = c.leaf.effort }
     ∷ bookings_from (n + 1) g s cs
 
 -- the bookings of a group for its picks from s on, numbered on from the greatest number ever given

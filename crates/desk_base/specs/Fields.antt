@@ -12,8 +12,8 @@ use Rattle.desk_base.specs.declared.resource_rows.HasRow.{HasRow}
 use Rattle.desk_base.specs.declared.resource_rows.MemberRow.{MemberRow}
 use Rattle.desk_base.specs.declared.booking_rows.BookingRow.{BookingRow}
 use Rattle.desk_base.specs.declared.rules.Field.{Field}
-use Rattle.desk_base.specs.declared.rules.Field.TheVariants.{Name, Shifts, Weekday, To, Capacity, Overlap, Day, Id, Kind, Calendar, Rating, Group, Member, Step, Duration, Effort, Kinds, Roles, Characteristics, Territories, Units, Required, Restricted, Window as OwnWindow}
-use Rattle.desk_base.specs.Limits.{first_minute, end_of_minutes, minutes_a_day, name_limit, shift_limit, list_limit, window_limit, id_limit, first_day, last_day, capacity_limit, effort_limit, rating_limit, duration_limit, least_step}
+use Rattle.desk_base.specs.declared.rules.Field.TheVariants.{Name, Shifts, Weekday, To, Capacity, Overlap, Day, Id, Kind, Calendar, Rating, Group, Member, Step, Duration, Offset, Effort, Kinds, Roles, Characteristics, Territories, Units, Required, Restricted, Window as OwnWindow}
+use Rattle.desk_base.specs.Limits.{first_minute, end_of_minutes, minutes_a_day, name_limit, shift_limit, list_limit, window_limit, id_limit, first_day, last_day, capacity_limit, effort_limit, rating_limit, duration_limit, offset_limit, least_step}
 use Rattle.desk_base.specs.Capacity.{resource_of}
 use Rattle.desk_base.specs.Load.{LoadSort, plain, crew, pool, sort_of, sort_of_kind}
 use Rattle.desk_base.specs.Eligible.{kind_number}
@@ -144,7 +144,7 @@ is_list xs = nat_le (length xs) list_limit && are_distinct xs
 -- the ranges of a leaf, its lists, and its own window, which is not empty
 abbrev pub leaf_rules : Leaf → Rules
 leaf_rules l =
-    (is_within_range 1 duration_limit l.duration, Duration) ∷ (is_within_range 1 effort_limit l.effort, Effort)
+    (is_within_range 1 duration_limit l.duration, Duration) ∷ (nat_le l.offset offset_limit, Offset) ∷ (is_within_range 1 effort_limit l.effort, Effort)
     ∷ (is_list (map kind_number l.kinds), Kinds) ∷ (is_list l.roles, Roles) ∷ (is_list (map (λ c. c.0) l.characteristics), Characteristics)
     ∷ (is_list l.territories, Territories) ∷ (is_list l.units, Units) ∷ (is_list l.required, Required) ∷ (is_list l.restricted, Restricted)
     ∷ (list_all (λ c. is_within_range 1 rating_limit c.1) l.characteristics, Rating)

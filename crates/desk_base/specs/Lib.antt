@@ -5,6 +5,7 @@ pub mod TableLimits
 pub mod Time
 pub mod Capacity
 pub mod Load
+pub mod Efforts
 pub mod Eligible
 pub mod Trees
 pub mod Picks

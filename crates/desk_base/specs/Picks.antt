@@ -4,7 +4,7 @@ use Rattle.std.specs.List.{list_any, list_all}
 use Rattle.std.specs.Option.{option_map_or}
 use Rattle.desk_base.specs.Types.{Tables, Leaf, Node, Same, Window}
 use Rattle.desk_base.specs.declared.group_rows.Same.TheVariants.{None as NoSame, Unit as SameUnit, Site as SameSite, Crew as SameCrew}
-use Rattle.desk_base.specs.Time.{leaf_time, minutes_of}
+use Rattle.desk_base.specs.Time.{leaf_time, minutes_of, within_horizon}
 use Rattle.desk_base.specs.Capacity.{resource_of}
 use Rattle.desk_base.specs.Load.{members, sort_of_kind, is_crew}
 use Rattle.desk_base.specs.Trees.{leaf_bit}
@@ -39,9 +39,9 @@ abbrev pub are_all_equal : List ℕ → Bool
 are_all_equal [] = true
 are_all_equal (x ∷ xs) = list_all (λ y. y == x) xs
 
--- r is a member of g at each minute of the window
+-- r is a member of g at each minute of the window that is in the horizon
 unfoldable pub is_member_throughout : Tables → ℕ → ℕ → Window → Bool
-is_member_throughout t g r w = list_all (λ m. list_any (λ x. x == r) (members t g m)) (minutes_of w)
+is_member_throughout t g r w = list_all (λ m. list_any (λ x. x == r) (members t g m)) (minutes_of (within_horizon w))
 
 -- the chosen resource is in the crew g during its leaf's time
 abbrev pub is_in_crew : Tables → ℕ → ℕ → Choice → Bool

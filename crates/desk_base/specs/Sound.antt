@@ -1,9 +1,9 @@
 -- What loaded tables keep.
-use Rattle.std.specs.Prelude.{ℕ, Bool, true, ◌&&◌, ◌==◌, nat_le, List, [], ◌∷◌, ◌++◌, map, filter, length, Option, is_none, ◌≡◌, ◌≢◌, ◌<◌, ◌⊎◌, IsTrue, Contains}
+use Rattle.std.specs.Prelude.{ℕ, Bool, true, ◌&&◌, ◌==◌, nat_le, List, [], ◌∷◌, ◌++◌, map, filter, length, Option, is_none, ◌≡◌, ◌≢◌, ◌<◌, ◌≤◌, ◌*◌, ◌⊎◌, IsTrue, Contains}
 use Rattle.std.specs.List.{list_all}
 use Rattle.std.specs.declared.cmp.Ordering.TheVariants.{Less}
-use Rattle.desk_base.specs.Types.{Tables, Key, AnyRow, TableRule, GroupRow, BookingRow}
-use Rattle.desk_base.specs.declared.tables.Table.TheVariants.{Resource as ResourceTable, Group as GroupTable, Booking as BookingTable}
+use Rattle.desk_base.specs.Types.{Tables, Table, Key, AnyRow, TableRule, GroupRow, BookingRow}
+use Rattle.desk_base.specs.declared.tables.Table.TheVariants.{Off, Resource as ResourceTable, Group as GroupTable, Booking as BookingTable}
 use Rattle.desk_base.specs.declared.tables.AnyRow.TheVariants.{Group}
 use Rattle.desk_base.specs.declared.rules.TableRule.TheVariants.{Order, Limit, Field, Citation, Fits as FitsRule, Booked, Count}
 use Rattle.desk_base.specs.Limits.{revision_limit, serial_limit}
@@ -63,6 +63,19 @@ Keeps Count t k = k ≡ id_key BookingTable 0 → IsTrue (is_counted t)
 -- every rule is kept at every key
 pub record IsSound (t : Tables) : Type 0 where
   pub keeps : (rule : TableRule) (k : Key) → Keeps rule t k
+
+-- how many rows of a table calls take: of times off and of bookings ten times as many as a schedule keeps
+abbrev pub taken_limit_of : Table → ℕ
+taken_limit_of Off = 10 * limit_of Off
+taken_limit_of BookingTable = 10 * limit_of BookingTable
+taken_limit_of table = limit_of table
+
+-- what calls ask of the tables that they are given: keys rise, no table is too long, each row keeps its field and tree rules, and what it names is there
+pub record AreWellFormed (t : Tables) : Type 0 where
+  pub order : (k : Key) → Keeps Order t k
+  pub limit : (table : Table) → length (rows_in t table) ≤ taken_limit_of table
+  pub field : (k : Key) → Keeps Field t k
+  pub citation : (k : Key) → Keeps Citation t k
 
 -- the place of a rule in the order in which they are judged
 abbrev pub rule_number : TableRule → ℕ

@@ -1,10 +1,10 @@
 -- The one-thread scheduler: what a command comes to over tables and a journal, which refusal it meets first, and what stays.
-use Rattle.std.specs.Prelude.{ℕ, ◌+◌, Bool, true, false, ◌==◌, nat_le, ◌&&◌, List, [], ◌∷◌, ◌++◌, map, filter, not, find, Option, Some, None, option_map, if◌then◌else◌, ◌≡◌, ◌≢◌, ◌⊎◌, ⊤, IsTrue}
+use Rattle.std.specs.Prelude.{ℕ, ◌+◌, Bool, true, false, ◌==◌, nat_le, ◌&&◌, List, [], ◌∷◌, ◌++◌, map, filter, not, find, Option, Some, None, option_map, unwrap_or, if◌then◌else◌, ◌≡◌, ◌≢◌, ◌⊎◌, ⊤, IsTrue}
 use Rattle.std.specs.Option.{option_map_or, option_or}
-use Rattle.desk_base.specs.Types.{Tables, Table, Key, GroupRow, BookingRow, Ask, Position}
+use Rattle.desk_base.specs.Types.{Tables, Table, Key, GroupRow, BookingRow, Ask, Options}
 use Rattle.desk_base.specs.declared.tables.Table.TheVariants.{Zone, Calendar, Work, Break, Day, Off, Unit, Site, Role, Characteristic, Territory, Resource, HasRole, HasCharacteristic, HasTerritory, Member, Group, Booking, Caller, BookingNumbers}
 use Rattle.desk_base.specs.declared.rules.Verdict.TheVariants as verdict
-use Rattle.desk_base.specs.declared.rules.Field.TheVariants.{Limit}
+use Rattle.desk_base.specs.declared.rules.Field.TheVariants.{Limit, Per}
 use Rattle.desk_base.specs.declared.booking_rows.Receipt.{Receipt}
 use Rattle.desk_base.specs.declared.searches.Cursor.{Cursor}
 use Rattle.desk_base.specs.declared.changes.Act.{Act}
@@ -26,10 +26,11 @@ use Rattle.desk_base.specs.declared.answers.Outcome.TheVariants as outcome
 use Rattle.desk_base.specs.Limits.{page_limit}
 use Rattle.desk_base.specs.Keys.{id_key}
 use Rattle.desk_base.specs.Rows.{key_of}
+use Rattle.desk_base.specs.Fields.{is_within_range}
 use Rattle.desk_base.specs.Load.{Fits, IsClash, weight, shown_at, ask_of}
 use Rattle.desk_base.specs.Listing.{asks_for}
 use Rattle.desk_base.specs.Verdicts.{IsVerdict}
-use Rattle.desk_base.specs.Page.{IsPage}
+use Rattle.desk_base.specs.Page.{ResumePoint, beginning, IsPage}
 use Rattle.desk_base.specs.Callers.{last_number}
 use Rattle.desk_base.specs.Groups.{group_of}
 use Rattle.desk_base.specs.Acts.{receipt_of, after_act}
@@ -137,13 +138,19 @@ IsChanged t journal pass call a None out t' journal' = IsJudged t journal pass c
 
 -- ---- questions
 
--- the place that a cursor shows
-abbrev pub place_of : Option Cursor → Option Position
-place_of after = option_map (λ c. c.position) after
+-- the point that a cursor shows; without one the search begins
+abbrev pub point_of : Option Cursor → ResumePoint
+point_of None = beginning
+point_of (Some c) = record { after = Some c.position; shown = unwrap_or c.shown 0 }
 
 -- a page has 1 to 500 rows
 abbrev pub refused_limit : ℕ → Option Refusal
-refused_limit limit = if nat_le 1 limit && nat_le limit page_limit then None else Some (refusal.BadField Limit)
+refused_limit limit = if is_within_range 1 page_limit limit then None else Some (refusal.BadField Limit)
+
+-- each start shows 1 to 500 rows, or all
+abbrev pub refused_per : Option ℕ → Option Refusal
+refused_per None = None
+refused_per (Some per) = if is_within_range 1 page_limit per then None else Some (refusal.BadField Per)
 
 -- a cursor shows the revision that is now, or goes on at the latest
 abbrev pub refused_cursor : ℕ → Option Cursor → Bool → Option Refusal
@@ -152,15 +159,15 @@ refused_cursor now (Some c) true = None
 refused_cursor now (Some c) false = if c.revision == now then None else Some (refusal.Moved c.revision now)
 
 -- why a page of a group is refused, by the first reason that applies
-abbrev pub refused_page : Tables → ℕ → Option Cursor → Bool → ℕ → Option Refusal
-refused_page t group after latest limit =
-    option_or (unknown_among t (id_key Group group ∷ [])) (option_or (refused_limit limit) (refused_cursor t.revision after latest))
+abbrev pub refused_page : Tables → ℕ → Options → Option Cursor → Bool → ℕ → Option Refusal
+refused_page t group options after latest limit =
+    option_or (unknown_among t (id_key Group group ∷ [])) (option_or (refused_limit limit) (option_or (refused_per options.per) (refused_cursor t.revision after latest)))
 
 -- the answer to a question
 abbrev pub IsAnswer : Tables → Query → Outcome → Type 0
 IsAnswer t (query.Rows group options after latest limit) (outcome.Done (reply.Rows page)) =
-    (refused_page t group after latest limit ≡ None) × ((g : GroupRow) × (group_of t group ≡ Some g) × IsPage t g options (place_of after) limit page)
-IsAnswer t (query.Rows group options after latest limit) (outcome.Refused why) = refused_page t group after latest limit ≡ Some why
+    (refused_page t group options after latest limit ≡ None) × ((g : GroupRow) × (group_of t group ≡ Some g) × IsPage t g options (point_of after) limit page)
+IsAnswer t (query.Rows group options after latest limit) (outcome.Refused why) = refused_page t group options after latest limit ≡ Some why
 IsAnswer t query.Revision out = out ≡ outcome.Done reply.Revision
 IsAnswer t (query.Rows group options after latest limit) _ = ⊥
 

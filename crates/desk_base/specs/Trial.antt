@@ -42,7 +42,7 @@ work_on_monday calendar from = record { calendar = calendar; weekday = 0; from =
 
 -- a leaf of an hour and effort 1 that any resource serves
 abbrev pub plain_leaf : LeafFields
-plain_leaf = record { duration = 60; effort = 1; kinds = []; roles = []; characteristics = []; territories = []; units = []; required = []; restricted = []; window = None }
+plain_leaf = record { duration = 60; offset = 0; effort = 1; kinds = []; roles = []; characteristics = []; territories = []; units = []; required = []; restricted = []; window = None }
 
 -- Visit: one plain leaf, each full hour of 2025-01-06, a Monday, from 08:00Z to 12:00Z
 abbrev pub trial_group : GroupRow

@@ -78,6 +78,7 @@ impl Duplicate for Cursor {
     fn copy(&self, alloc: Global) -> Result<Cursor, NoMemory> {
         Ok(Cursor {
             revision: self.revision,
+            shown: self.shown,
             position: self.position.copy(alloc)?,
         })
     }

@@ -91,6 +91,7 @@ impl Duplicate for Leaf {
     fn copy(&self, alloc: Global) -> Result<Leaf, NoMemory> {
         Ok(Leaf {
             duration: self.duration,
+            offset: self.offset,
             effort: self.effort,
             kinds: copy_plain(alloc, &self.kinds)?,
             roles: copy_plain(alloc, &self.roles)?,

@@ -1,4 +1,8 @@
 //! Requirement groups: a window, a grid of starts, and a tree of leaves.
+ghost use Rattle.std.specs.Prelude.{◌≡◌, ◌≤◌};
+ghost use Rattle.desk_base.specs.Limits.{end_of_minutes};
+ghost use Rattle.desk_base.specs.Time.{leaf_time};
+
 use crate::ids::{CharacteristicId, GroupId, ResourceId, RoleId, TerritoryId, UnitId};
 use crate::items::Items;
 use crate::minutes::{Minute, Window};
@@ -61,11 +65,12 @@ pub struct Node {
     pub same: Same,
 }
 
-/// What one resource is asked for: a duration in minutes, an effort, and who serves. An empty list makes no demand. The effort
-/// is taken of a resource's capacity at each minute.
+/// What one resource is asked for: a duration in minutes, which begins so many minutes after the start of the group, an effort,
+/// and who serves. An empty list makes no demand. The effort is taken of a resource's capacity at each minute.
 #[derive(Debug, Drop)]
 pub struct Leaf {
     pub duration: u32,
+    pub offset: u32,
     pub effort: u32,
     pub kinds: Kinds,
     pub roles: Roles,
@@ -75,6 +80,20 @@ pub struct Leaf {
     pub required: Resources,
     pub restricted: Resources,
     pub window: Option<Window>,
+}
+
+impl Leaf {
+    /// The time of the leaf where its group starts at this minute.
+    pub fn time(&self, start: Minute) -> Window
+        requires { (leaf_time self.now start).to ≤ end_of_minutes }
+        ensures { result ≡ leaf_time self.now start }
+    {
+        let from = start.get() + self.offset;
+        Window {
+            from: Minute::of(from).unwrap(),
+            to: Minute::of(from + self.duration).unwrap(),
+        }
+    }
 }
 
 /// A requirement group. Its starts are `from` plus whole steps (in minutes), below `to`. Its leaves are those of its tree, in

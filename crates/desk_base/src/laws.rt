@@ -1,11 +1,11 @@
 //! Laws of the definitions: each is the contract of a function that does nothing.
-ghost use Rattle.std.specs.Prelude.{◌≡◌, ◌+◌, ◌++◌, ◌≤◌, ℕ, List, Option, Some, None, false, length, sum_by, Contains};
+ghost use Rattle.std.specs.Prelude.{◌≡◌, ◌+◌, ◌++◌, ◌≤◌, ℕ, List, Option, Some, false, length, sum_by, Contains};
 ghost use Rattle.desk_base.specs.Types.{Tables, GroupRow, BookingRow, Found, Position, Options, Ask, Page};
 ghost use Rattle.desk_base.specs.Load.{weight, own_load, members, sort_of, pool, IsClash};
-ghost use Rattle.desk_base.specs.Listing.{IsLive, IsRow, IsListing, IsLiveList};
-ghost use Rattle.desk_base.specs.Page.{found_of, IsAfter, IsPage, AreResumed, Joins};
-ghost use Rattle.desk_base.specs.Positions.{position_at, rows_among};
-ghost use Rattle.desk_base.specs.Sound.{IsSound};
+ghost use Rattle.desk_base.specs.Listing.{IsLive, IsRow, AreRows, IsListing, IsLiveList};
+ghost use Rattle.desk_base.specs.Page.{ResumePoint, beginning, passed_of, IsPage, AreResumed, Joins, PassesOne, IsShortest};
+ghost use Rattle.desk_base.specs.Positions.{position_at, found_of, rows_among};
+ghost use Rattle.desk_base.specs.Sound.{IsSound, AreWellFormed};
 ghost use Rattle.desk_base.specs.Trial.{trial};
 ghost use Rattle.desk_base.specs.Verdicts.{IsVerdict};
 ghost use Rattle.desk_base.specs.declared.rules.Verdict.{Verdict};
@@ -15,14 +15,19 @@ pub fn trial_is_sound()
     ensures { IsSound trial }
 {}
 
+/// Sound tables are what calls ask for.
+pub fn sound_tables_are_well_formed()
+    ensures { (t : Tables) → IsSound t → AreWellFormed t }
+{}
+
 /// The weights of two lists of bookings add up.
 pub fn weights_add()
     ensures { (t : Tables) (standing asked : List Ask) (r m : ℕ) → weight t (standing ++ asked) r m ≡ weight t standing r m + weight t asked r m }
 {}
 
-/// In sound tables a pool weighs what stands on it and what its members weigh.
+/// In well-formed tables a pool weighs what stands on it and what its members weigh.
 pub fn pool_weights()
-    ensures { (t : Tables) (asks : List Ask) (r m : ℕ) → IsSound t → sort_of t r ≡ pool → weight t asks r m ≡ sum_by (own_load r m) asks + sum_by (λ x. weight t asks x m) (members t r m) }
+    ensures { (t : Tables) (asks : List Ask) (r m : ℕ) → AreWellFormed t → sort_of t r ≡ pool → weight t asks r m ≡ sum_by (own_load r m) asks + sum_by (λ x. weight t asks x m) (members t r m) }
 {}
 
 /// Bookings clash at one minute, and there at one resource.
@@ -37,18 +42,23 @@ pub fn prefixes_live()
 
 /// The rows of a search are its live positions that have a pick for each leaf.
 pub fn full_positions_are_rows()
-    ensures { (t : Tables) (g : GroupRow) (o : Options) (ps : List Position) → IsSound t → Contains t.groups g → IsLiveList t g o ps → IsListing t g o (rows_among (length g.leaves) ps) }
+    ensures { (t : Tables) (g : GroupRow) (o : Options) (ps : List Position) → AreWellFormed t → Contains t.groups g → IsLiveList t g o ps → AreRows t g o (rows_among (length g.leaves) ps) }
 {}
 
 /// A live position with a pick for each leaf is a row of the search.
 pub fn full_position_is_row()
-    ensures { (t : Tables) (g : GroupRow) (o : Options) (p : Position) → IsSound t → Contains t.groups g → IsLive t g o p → length p.picks ≡ length g.leaves → IsRow t g o (found_of p) }
+    ensures { (t : Tables) (g : GroupRow) (o : Options) (p : Position) → AreWellFormed t → Contains t.groups g → IsLive t g o p → length p.picks ≡ length g.leaves → IsRow t g o (found_of p) }
 {}
 
-/// A page that is not at its end has passed a live position, and goes on after it.
+/// A page that is not at its end has passed a live position that was due, and goes on after it.
 pub fn page_passes()
-    ensures { (t : Tables) (g : GroupRow) (o : Options) (after : Option Position) (limit : ℕ) (page : Page) → 1 ≤ limit → IsPage t g o after limit page → page.end ≡ false
-        → (p : Position) × IsLive t g o p × IsAfter after p × (page.next ≡ Some p) }
+    ensures { (t : Tables) (g : GroupRow) (o : Options) (point : ResumePoint) (limit : ℕ) (page : Page) → 1 ≤ limit → IsPage t g o point limit page → page.end ≡ false → PassesOne t g o point page }
+{}
+
+/// What a page passes holds as many rows as it may have, or as many positions as it may pass, or all of them, and no shorter
+/// prefix does.
+pub fn passes_no_more()
+    ensures { (leaves full many : ℕ) (ps : List Position) → IsShortest leaves full many ps (passed_of leaves full many ps) }
 {}
 
 /// A search has one listing.
@@ -61,14 +71,15 @@ pub fn live_lists_agree()
     ensures { (t : Tables) (g : GroupRow) (o : Options) (xs ys : List Position) → IsLiveList t g o xs → IsLiveList t g o ys → xs ≡ ys }
 {}
 
-/// After one position and with one limit a search has one page.
+/// From one point on and with one limit a search has one page.
 pub fn pages_agree()
-    ensures { (t : Tables) (g : GroupRow) (o : Options) (after : Option Position) (limit : ℕ) (x y : Page) → IsPage t g o after limit x → IsPage t g o after limit y → x ≡ y }
+    ensures { (t : Tables) (g : GroupRow) (o : Options) (point : ResumePoint) (limit : ℕ) (x y : Page) → IsPage t g o point limit x → IsPage t g o point limit y → x ≡ y }
 {}
 
-/// Pages that resume one another join to the first rows of the listing, and to all of them where the last says that it ends.
+/// Pages of one search, each resumed from the one before, join to the first rows of the listing, and to all of them where the
+/// last says that it ends.
 pub fn pages_join()
-    ensures { (t : Tables) (g : GroupRow) (o : Options) (pages : List Page) (listing : List Found) → IsSound t → Contains t.groups g → IsListing t g o listing → AreResumed t g o None pages → Joins t g o pages listing }
+    ensures { (t : Tables) (g : GroupRow) (o : Options) (pages : List Page) (listing : List Found) → AreWellFormed t → Contains t.groups g → IsListing t g o listing → AreResumed t g o beginning pages → Joins t g o pages listing }
 {}
 
 /// Of a start and picks at most one verdict holds.

@@ -25,25 +25,31 @@ pub struct Position {
     pub picks: Picks,
 }
 
-/// From where a search goes on, and over which revision of the schedule.
+/// From where a search goes on, and over which revision of the schedule. `shown` says how many rows of the position's start were
+/// shown up to it, for a search that keeps only the first rows of each start; where it is not given none were.
 #[derive(Debug, Drop)]
 pub struct Cursor {
     pub revision: u64,
+    pub shown: Option<u16>,
     pub position: Position,
 }
 
-/// The starts of a search: from `from` on and below `to`, where they are given.
+/// The starts of a search: from `from` on and below `to`, where they are given. With `per` (1 to 500) each start keeps its first
+/// `per` rows.
 #[derive(Clone, Copy, Debug)]
 pub struct Options {
     pub from: Option<Minute>,
     pub to: Option<Minute>,
+    pub per: Option<u32>,
 }
 
-/// A page of a search. The next page comes after `next`, and at the `end` there is none.
+/// A page of a search. The next page comes after `next`, and at the `end` there is none. Where each start keeps its first rows
+/// alone, `shown` says how many rows of the start of `next` were shown up to it.
 #[derive(Debug, Drop)]
 pub struct Page {
     pub rows: Founds,
     pub next: Option<Position>,
+    pub shown: Option<u16>,
     pub end: bool,
 }
 

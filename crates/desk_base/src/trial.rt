@@ -77,6 +77,7 @@ fn leaf(alloc: Global) -> Leaf
 {
     Leaf {
         duration: 60,
+        offset: 0,
         effort: 1,
         kinds: Items::new(alloc),
         roles: Items::new(alloc),

@@ -9,18 +9,19 @@ use Rattle.desk_base.specs.declared.group_rows.GroupRow.{GroupRow}
 use Rattle.desk_base.specs.declared.booking_rows.BookingRow.{BookingRow}
 use Rattle.desk_base.specs.declared.group_rows.Leaf.{Leaf}
 use Rattle.desk_base.specs.Limits.{end_of_minutes}
+use Rattle.desk_base.specs.Time.{leaf_time}
 use Rattle.desk_base.specs.Picks.{Choice, choices_of}
 use Rattle.desk_base.specs.Listing.{serves, other_asks, ask_for}
 use Rattle.desk_base.proofs.Tests.{and_left, and_right, and_both}
 use Rattle.desk_search.proofs.Tests.{served, leaf_end}
 
-end_fits : (t : Tables) (g : GroupRow) (s : ℕ) (c : Choice) → g.to ≤ end_of_minutes → serves t g s c ≡ true → nat_le (s + c.leaf.duration) end_of_minutes ≡ true
+end_fits : (t : Tables) (g : GroupRow) (s : ℕ) (c : Choice) → g.to ≤ end_of_minutes → serves t g s c ≡ true → nat_le (leaf_time c.leaf s).to end_of_minutes ≡ true
 end_fits t g s c b e = let h = leaf_end g c.leaf s (served t g c.leaf s c.resource e).1 in grind (arith, nat_tests)
 
-pub ends_fit : (t : Tables) (g : GroupRow) (s : ℕ) (cs : List Choice) → g.to ≤ end_of_minutes → list_all (serves t g s) cs ≡ true → list_all (λ c. nat_le (s + c.leaf.duration) end_of_minutes) cs ≡ true
+pub ends_fit : (t : Tables) (g : GroupRow) (s : ℕ) (cs : List Choice) → g.to ≤ end_of_minutes → list_all (serves t g s) cs ≡ true → list_all (λ c. nat_le (leaf_time c.leaf s).to end_of_minutes) cs ≡ true
 ends_fit t g s [] b e = refl
 ends_fit t g s (c ∷ cs) b e =
-    and_both (nat_le (s + c.leaf.duration) end_of_minutes) (list_all (λ c. nat_le (s + c.leaf.duration) end_of_minutes) cs)
+    and_both (nat_le (leaf_time c.leaf s).to end_of_minutes) (list_all (λ c. nat_le (leaf_time c.leaf s).to end_of_minutes) cs)
     (end_fits t g s c b (and_left (serves t g s c) (list_all (serves t g s) cs) e))
     (ends_fit t g s cs b (and_right (serves t g s c) (list_all (serves t g s) cs) e))
 

@@ -9,7 +9,9 @@ use Rattle.desk_base.specs.declared.tables.Tables.{Tables}
 use Rattle.desk_base.specs.declared.resource_rows.ResourceRow.{ResourceRow}
 use Rattle.desk_base.specs.declared.searches.Ask.{Ask}
 use Rattle.desk_base.specs.declared.booking_rows.BookingRow.{BookingRow}
-use Rattle.desk_base.specs.Limits.{end_of_minutes}
+use Rattle.desk_base.specs.Limits.{end_of_minutes, effort_limit}
+use Rattle.desk_base.specs.TableLimits.{limit_of}
+use Rattle.desk_base.specs.declared.tables.Table.TheVariants.{Member as MemberTable}
 use Rattle.desk_base.specs.Time.{covers, IsMinute}
 use Rattle.desk_base.specs.Load.{weight, room, IsWithinRoom, Fits, IsClash, ask_of}
 use Rattle.desk_base.proofs.Members.{IsIn}
@@ -218,10 +220,11 @@ clash_is t standing asked r m n f e =
     let w = weight-append t (map ask_of standing) asked r m in
     record { minute = f.minute; capacity = e; over = omega (arith, b.2); earlier = f.earlier; lower = f.lower }
 
--- a bound of weights fits 64 bits
-pub few_weigh : (n k w : ℕ) → n ≤ 2 ^ 18 → k ≤ 10000 → w ≤ n * ((k + 1) * 2 ^ 32) → w < 2 ^ 64
-few_weigh n k w a b h =
-    let f : n * ((k + 1) * 2 ^ 32) ≤ n * (10001 * 2 ^ 32) = mul-le-mul_left n (omega arith) in omega arith
+-- the weight of light bookings fits 64 bits
+pub light_weigh : (n k w : ℕ) → n ≤ 2 ^ 22 → k ≤ limit_of MemberTable → w ≤ n * ((k + 1) * effort_limit) → w < 2 ^ 64
+light_weigh n k w a b h =
+    let e : (k + 1) * effort_limit ≤ 20001 * 1000 = omega (arith, b) in
+    let f : n * ((k + 1) * effort_limit) ≤ n * (20001 * 1000) = mul-le-mul_left n e in omega (arith, a, h, f)
 
 -- ---- the first that passes
 

@@ -142,13 +142,13 @@ in-prefixes cs (suc n) (q ∷ r ∷ rs) some h a =
 
 in-places : (t : Tables) (g : GroupRow) (o : Options) (p : Position) → length g.leaves ≡ leaf_count (tree_of g.nodes) → IsLive t g o p → IsIn p (places t g)
 in-places t g o p shape live =
-    let grid = live.consistent.grid in
+    let grid = live.grid in
     let whole = length-pattern (tree_of g.nodes) (pattern_of p.picks ++ live.pattern.0) (in_from_contains (patterns (tree_of g.nodes)) (pattern_of p.picks ++ live.pattern.0) live.pattern.1) in
     let a = length-append (pattern_of p.picks) live.pattern.0 in
     let b = length-map p.picks is_some in
     let size : length p.picks ≤ leaf_count (tree_of g.nodes) = omega arith in
     let few : length p.picks ≤ length g.leaves = omega arith in
-    let ok : list_all (serves t g p.start) (choices_of 0 g.leaves p.picks) ≡ true = live.consistent.serve in
+    let ok : list_all (serves t g p.start) (choices_of 0 g.leaves p.picks) ≡ true = live.serve in
     in_flat (places_at t g) p p.start (range_with_len g.from (g.to - g.from))
     (in_range p.start g.from (g.to - g.from) grid.from (omega (arith, grid.from, grid.below)))
     (in_mapped (position_at p.start) p.picks (prefixes (choices t) (leaf_count (tree_of g.nodes))) (in-prefixes (choices t) (leaf_count (tree_of g.nodes)) p.picks live.has_pick size (picks_in_choices t g p.start 0 g.leaves p.picks few ok)))

@@ -13,11 +13,11 @@ use Rattle.desk_base.specs.Rules.{first_broken}
 use Rattle.desk_base.specs.Fields.{group_rules}
 use Rattle.desk_base.specs.Trees.{Tree, Trees, none, tree_and, PlacedTree, children, siblings_after, tree_by, trees_of, tree_of, tree_of_placed, leaf_counts, is_leaf, leaf_bit, patterns, all_patterns, any_patterns}
 use Rattle.desk_base.specs.TreeRules.{TreeFault, node_rules, node_fault, tree_fault, fault_or, has_child}
-use Rattle.desk_base.specs.Sound.{IsSound}
+use Rattle.desk_base.specs.Sound.{AreWellFormed}
 use Rattle.desk_base.specs.Listing.{BeginsPattern}
 use Rattle.desk_base.proofs.Members.{IsIn, in_left, in_mapped, in_flat, contains_from_in}
 use Rattle.desk_base.proofs.Tests.{and_right}
-use Rattle.desk_base.proofs.Sounds.{group_kept}
+use Rattle.desk_base.proofs.Sounds.{group_keeps}
 use Rattle.desk_base.proofs.Shapes.{rules_kept, none_from}
 
 -- ---- inner nodes have children
@@ -115,7 +115,7 @@ from_rules [] size e = absurd (false≢true (ap is_none e))
 from_rules (n ∷ ns) size e = of_placed (trees_of (n ∷ ns)) (placed (n ∷ ns) (parents_from size 0 0 None (n ∷ ns) e))
 
 -- no pick at all begins a pattern
-pub nothing_begins : (t : Tables) (g : GroupRow) → IsSound t → Contains t.groups g → BeginsPattern (tree_of g.nodes) []
+pub nothing_begins : (t : Tables) (g : GroupRow) → AreWellFormed t → Contains t.groups g → BeginsPattern (tree_of g.nodes) []
 nothing_begins t g s c =
-    let h = from_rules g.nodes (length g.leaves) (none_from (tree_fault g.nodes (length g.leaves)) (and_right (is_none (first_broken (group_rules g))) (is_none (tree_fault g.nodes (length g.leaves))) (group_kept t g s c))) in
+    let h = from_rules g.nodes (length g.leaves) (none_from (tree_fault g.nodes (length g.leaves)) (and_right (is_none (first_broken (group_rules g))) (is_none (tree_fault g.nodes (length g.leaves))) (group_keeps t g s.field c))) in
     (h.0, contains_from_in (patterns (tree_of g.nodes)) h.0 h.1)

@@ -90,9 +90,9 @@ or_none (Some r) b e = absurd (false≢true e)
 pub served : (t : Tables) (g : GroupRow) (l : Leaf) (s r : ℕ) → is_none (first_broken_at t g l s r) ≡ true → (is_none (first_broken_rule t l r) ≡ true) × (is_in_windows g l s ≡ true)
 served t g l s r e = or_none (first_broken_rule t l r) (is_in_windows g l s) e
 
-pub leaf_end : (g : GroupRow) (l : Leaf) (s : ℕ) → is_in_windows g l s ≡ true → s + l.duration ≤ g.to
+pub leaf_end : (g : GroupRow) (l : Leaf) (s : ℕ) → is_in_windows g l s ≡ true → (leaf_time l s).to ≤ g.to
 leaf_end g l s e =
-    let h = and_right (nat_le g.from s) (nat_le (s + l.duration) g.to) (and_left (nat_le g.from s && nat_le (s + l.duration) g.to) _ e) in
+    let h = and_right (nat_le g.from (s + l.offset)) (nat_le (s + l.offset + l.duration) g.to) (and_left (nat_le g.from (s + l.offset) && nat_le (s + l.offset + l.duration) g.to) _ e) in
     grind (arith, nat_tests)
 
 pub asks_in_horizon : (t : Tables) (g : GroupRow) (s : ℕ) (cs : List Choice) → IsInHorizon g → g.from ≤ s → list_all (serves t g s) cs ≡ true → AreInHorizon (map (ask_for s) cs)
@@ -127,6 +127,6 @@ live_decides t g o p fits inside =
     (and_then_decides _ _ (true_decides (list_all (serves t g p.start) (choices_of 0 g.leaves p.picks))) (λ f.
     (and_decides _ _ (none_decides (first_broken_same t p.start g.nodes g.leaves p.picks)) (have_room_decides t (other_asks t g) (asks_for g p.start p.picks) fits
     (asks_in_horizon t g p.start (choices_of 0 g.leaves p.picks) inside ((grid_decides g p.start).0 e).from f)))))))) in (
-      λ e. let h = parts.0 e in record { consistent = record { grid = h.0; serve = h.1.1.1.1.0; same = h.1.1.1.1.1.0; fits = h.1.1.1.1.1.1 }; within = h.1.0; has_pick = h.1.1.0; pattern = h.1.1.1.0 },
-      λ r. parts.1 (r.consistent.grid, (r.within, (r.has_pick, (r.pattern, (r.consistent.serve, (r.consistent.same, r.consistent.fits)))))),
+      λ e. let h = parts.0 e in record { grid = h.0; serve = h.1.1.1.1.0; same = h.1.1.1.1.1.0; fits = h.1.1.1.1.1.1; within = h.1.0; has_pick = h.1.1.0; pattern = h.1.1.1.0 },
+      λ r. parts.1 (r.grid, (r.within, (r.has_pick, (r.pattern, (r.serve, (r.same, r.fits)))))),
     )

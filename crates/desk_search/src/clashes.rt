@@ -4,6 +4,7 @@ ghost use Rattle.desk_base.specs.Limits.{end_of_minutes, first_minute};
 ghost use Rattle.desk_base.specs.TableLimits.{limit_of};
 ghost use Rattle.desk_base.specs.declared.tables.Table.TheVariants.{Member};
 ghost use Rattle.desk_base.specs.Load.{ask_of, Fits, room, weight, counts, shown_at, IsWithinRoom};
+ghost use Rattle.desk_base.specs.Efforts.{AreLight};
 ghost use Rattle.desk_base.specs.Steps.{IsConflict, shown_of};
 ghost use Rattle.desk_search.specs.Rooms.{has_room_at};
 ghost use Rattle.desk_search.specs.Clashes.{lesser, next_over, least_over, is_busy, nearer, next_start, IsFirstOver};
@@ -45,7 +46,7 @@ fn least_over(
     asks: &[Ask],
     minute: u32,
 ) -> Result<Option<ResourceId>, AllocError>
-    requires { length asks.now ≤ 2 ^ 20 }
+    requires { length asks.now ≤ 2 ^ 23 }
     ensures { IfOk result (λ r. r ≡ least_over tables.now asks.now minute) }
 {
     let mut least = None;
@@ -81,7 +82,7 @@ fn next_minute(tables: &Tables, asks: &[Ask], minute: u32) -> u32
 
 /// The first minute at which a resource has too little room, and the least such resource there.
 fn first_over(alloc: Global, tables: &Tables, asks: &[Ask]) -> Result<Option<Place>, AllocError>
-    requires { length asks.now ≤ 2 ^ 20 }
+    requires { length asks.now ≤ 2 ^ 23 }
     ensures { IfOk result (λ p. MatchOption p (Fits tables.now asks.now) (λ p. IsFirstOver tables.now asks.now p.resource p.minute)) }
 {
     let mut minute = FIRST;
@@ -99,7 +100,7 @@ fn first_over(alloc: Global, tables: &Tables, asks: &[Ask]) -> Result<Option<Pla
 
 /// The same, looked for in the rows that bear on the bookings alone.
 fn first_place(alloc: Global, tables: &Tables, asks: &[Ask]) -> Result<Option<Place>, NoMemory>
-    requires { length asks.now ≤ 2 ^ 20 }
+    requires { length asks.now ≤ 2 ^ 23 }
     ensures { IfOk result (λ p. MatchOption p (Fits tables.now asks.now) (λ p. IsFirstOver tables.now asks.now p.resource p.minute)) }
 {
     let part = bearing(alloc, tables, asks)?;
@@ -168,8 +169,9 @@ fn bound_at(alloc: Global, tables: &Tables, asks: &[Ask], place: &Place) -> Resu
 
 /// What the bookings take at the place.
 fn weight_at(alloc: Global, tables: &Tables, asks: &[Ask], place: &Place) -> Result<u64, AllocError>
-    requires few { length asks.now ≤ 2 ^ 18 }
+    requires few { length asks.now ≤ 2 ^ 22 }
     requires few_members { length tables.now.members ≤ limit_of Member }
+    requires light { AreLight asks.now }
     ensures { IfOk result (λ n. n ≡ weight tables.now asks.now place.now.resource place.now.minute) }
 {
     Ok(weight(alloc, tables, asks, place.resource, place.minute.get())? as u64)
@@ -177,15 +179,16 @@ fn weight_at(alloc: Global, tables: &Tables, asks: &[Ask], place: &Place) -> Res
 
 /// The clash of bookings that are asked for with bookings that stand: the least minute, and there the least resource, at which
 /// they are together above the room. `None` exactly where all fit. The tables need not be sound: what is not there weighs
-/// nothing.
+/// nothing. There are at most 2^22 bookings, each with an effort of at most 1,000.
 pub fn clash(
     alloc: Global,
     tables: &Tables,
     standing: &[BookingRow],
     asked: &[Ask],
 ) -> Result<Option<Clash>, NoMemory>
-    requires few { length standing.now + length asked.now ≤ 2 ^ 18 }
+    requires few { length standing.now + length asked.now ≤ 2 ^ 22 }
     requires few_members { length tables.now.members ≤ limit_of Member }
+    requires light { AreLight (map ask_of standing.now ++ asked.now) }
     ensures { IfOk result (λ c. MatchOption c (Fits tables.now (map ask_of standing.now ++ asked.now)) (λ c. IsConflict tables.now standing.now asked.now c)) }
 {
     let uses = uses_of(alloc, standing)?;

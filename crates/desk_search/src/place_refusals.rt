@@ -2,15 +2,17 @@
 //!
 //! The points are judged in the order grid, shape, eligibility, part-of-same, room, each by a function of its own that goes on
 //! with the next.
-ghost use Rattle.std.specs.Prelude.{◌≡◌, [], ◌++◌, ◌+◌, ◌<◌, ◌≤◌, ◌^◌, nat_le, length, true, None, option_map, Contains, IfOk, MatchOption};
+ghost use Rattle.std.specs.Prelude.{◌≡◌, [], ◌++◌, ◌+◌, ◌<◌, ◌≤◌, ◌^◌, nat_le, length, map, true, None, option_map, Contains, IfOk, MatchOption};
 ghost use Rattle.std.specs.List.{list_all};
-ghost use Rattle.desk_base.specs.Sound.{IsSound};
+ghost use Rattle.desk_base.specs.Sound.{AreWellFormed};
 ghost use Rattle.desk_base.specs.Limits.{end_of_minutes};
 ghost use Rattle.desk_base.specs.TableLimits.{limit_of};
 ghost use Rattle.desk_base.specs.declared.tables.Table.TheVariants.{Member as MemberTable};
 ghost use Rattle.desk_base.specs.Trees.{tree_of, patterns, leaf_count};
 ghost use Rattle.desk_base.specs.Picks.{choices_of, pattern_of, first_broken_same};
-ghost use Rattle.desk_base.specs.Load.{Fits};
+ghost use Rattle.desk_base.specs.Time.{leaf_time};
+ghost use Rattle.desk_base.specs.Load.{Fits, ask_of};
+ghost use Rattle.desk_base.specs.Efforts.{AreLight};
 ghost use Rattle.desk_base.specs.Listing.{IsOnGrid, IsFeasible, BeginsPattern, other_asks, asks_for};
 ghost use Rattle.desk_base.specs.Verdicts.{IsBadShape, HasShape, IsServed, first_unserved};
 ghost use Rattle.desk_base.specs.Steps.{others_of, IsConflict, IsPlaceRefusal};
@@ -97,9 +99,10 @@ fn clash_with_others(
     start: Minute,
     picks: &[Option<ResourceId>],
 ) -> Result<Option<Clash>, NoMemory>
-    requires few { length tables.now.bookings + length group.now.leaves ≤ 2 ^ 18 }
+    requires few { length tables.now.bookings + length group.now.leaves ≤ 2 ^ 22 }
     requires few_members { length tables.now.members ≤ limit_of MemberTable }
-    requires end { list_all (λ c. nat_le (start + c.leaf.duration) end_of_minutes) (choices_of 0 group.now.leaves picks.now) ≡ true }
+    requires light { AreLight (map ask_of (others_of tables.now group.now.id) ++ asks_for group.now start picks.now) }
+    requires end { list_all (λ c. nat_le (leaf_time c.leaf start).to end_of_minutes) (choices_of 0 group.now.leaves picks.now) ≡ true }
     ensures { IfOk result (λ c. MatchOption c (Fits tables.now (other_asks tables.now group.now ++ asks_for group.now start picks.now)) (IsConflict tables.now (others_of tables.now group.now.id) (asks_for group.now start picks.now))) }
 {
     let others = others_of(alloc, tables, group.id)?;
@@ -115,7 +118,7 @@ fn room_refusal(
     start: Minute,
     picks: &[Option<ResourceId>],
 ) -> Result<Option<Refusal>, NoMemory>
-    requires sound { IsSound tables.now }
+    requires formed { AreWellFormed tables.now }
     requires there { Contains tables.now.groups group.now }
     requires served { IsServed tables.now group.now start picks.now }
     requires same { first_broken_same tables.now start group.now.nodes group.now.leaves picks.now ≡ None }
@@ -137,7 +140,7 @@ fn same_refusal(
     start: Minute,
     picks: &[Option<ResourceId>],
 ) -> Result<Option<Refusal>, NoMemory>
-    requires sound { IsSound tables.now }
+    requires formed { AreWellFormed tables.now }
     requires there { Contains tables.now.groups group.now }
     requires served { IsServed tables.now group.now start picks.now }
     ensures { IfOk result (λ r. MatchOption r (IsFeasible tables.now group.now start picks.now) (IsPlaceRefusal tables.now group.now start picks.now)) }
@@ -156,7 +159,7 @@ fn leaf_refusal(
     start: Minute,
     picks: &[Option<ResourceId>],
 ) -> Result<Option<Refusal>, NoMemory>
-    requires sound { IsSound tables.now }
+    requires formed { AreWellFormed tables.now }
     requires there { Contains tables.now.groups group.now }
     requires shape { HasShape group.now start picks.now }
     ensures { IfOk result (λ r. MatchOption r (IsFeasible tables.now group.now start picks.now) (IsPlaceRefusal tables.now group.now start picks.now)) }
@@ -176,7 +179,7 @@ fn shape_refusal(
     start: Minute,
     picks: &[Option<ResourceId>],
 ) -> Result<Option<Refusal>, NoMemory>
-    requires sound { IsSound tables.now }
+    requires formed { AreWellFormed tables.now }
     requires there { Contains tables.now.groups group.now }
     requires grid { IsOnGrid group.now start }
     ensures { IfOk result (λ r. MatchOption r (IsFeasible tables.now group.now start picks.now) (IsPlaceRefusal tables.now group.now start picks.now)) }
@@ -196,7 +199,7 @@ pub fn place_refusal(
     start: Minute,
     picks: &[Option<ResourceId>],
 ) -> Result<Option<Refusal>, NoMemory>
-    requires sound { IsSound tables.now }
+    requires formed { AreWellFormed tables.now }
     requires there { Contains tables.now.groups group.now }
     ensures { IfOk result (λ r. MatchOption r (IsFeasible tables.now group.now start picks.now) (λ why. IsPlaceRefusal tables.now group.now start picks.now why)) }
 {

@@ -12,6 +12,7 @@ pub mod asks;
 mod choices;
 mod crews;
 pub mod eligible;
+mod intervals;
 mod listing;
 mod live;
 pub mod load;

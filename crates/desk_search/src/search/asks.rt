@@ -2,6 +2,7 @@
 ghost use Rattle.std.specs.Prelude.{◌≡◌, ◌∷◌, ◌++◌, ◌≤◌, ◌<◌, ◌+◌, ◌^◌, ◌==◌, nat_le, length, map, filter, true, IfOk, OnOk};
 ghost use Rattle.std.specs.List.{list_all};
 ghost use Rattle.desk_base.specs.Limits.{end_of_minutes};
+ghost use Rattle.desk_base.specs.Time.{leaf_time};
 ghost use Rattle.desk_base.specs.Load.{ask_of};
 ghost use Rattle.desk_base.specs.Picks.{choices_of};
 ghost use Rattle.desk_base.specs.Listing.{other_asks, ask_for};
@@ -37,16 +38,12 @@ pub fn other_asks(alloc: Global, tables: &Tables, group: &GroupRow) -> Result<Ve
 }
 
 fn ask_for(start: Minute, leaf: &Leaf, id: ResourceId) -> Ask
-    requires { start + leaf.now.duration ≤ end_of_minutes }
+    requires { (leaf_time leaf.now start).to ≤ end_of_minutes }
     ensures { result ≡ ask_for start (record { number = 0; leaf = leaf.now; resource = id }) }
 {
-    let end = Minute::of(start.get() + leaf.duration).unwrap();
     Ask {
         resource: id,
-        window: Window {
-            from: start,
-            to: end,
-        },
+        window: leaf.time(start),
         effort: leaf.effort,
     }
 }
@@ -60,7 +57,7 @@ fn push_asks(
     asks: &mut Vec<Ask>,
 ) -> Result<(), AllocError>
     requires few { number + length leaves.now < 2 ^ 64 }
-    requires end { list_all (λ c. nat_le (start + c.leaf.duration) end_of_minutes) (choices_of number leaves.now picks.now) ≡ true }
+    requires end { list_all (λ c. nat_le (leaf_time c.leaf start).to end_of_minutes) (choices_of number leaves.now picks.now) ≡ true }
     ensures { OnOk result (asks.new.items ≡ asks.old.items ++ map (ask_for start) (choices_of number leaves.now picks.now)) }
 {
     match leaves {
@@ -83,7 +80,7 @@ pub fn new_asks(
     leaves: &[Leaf],
     picks: &[Option<ResourceId>],
 ) -> Result<Vec<Ask>, AllocError>
-    requires end { list_all (λ c. nat_le (start + c.leaf.duration) end_of_minutes) (choices_of 0 leaves.now picks.now) ≡ true }
+    requires end { list_all (λ c. nat_le (leaf_time c.leaf start).to end_of_minutes) (choices_of 0 leaves.now picks.now) ≡ true }
     ensures { IfOk result (λ v. v.items ≡ map (ask_for start) (choices_of 0 leaves.now picks.now)) }
 {
     let mut asks = Vec::new(alloc);

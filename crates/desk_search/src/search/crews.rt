@@ -1,5 +1,5 @@
 //! Whether some crew has all who are chosen.
-ghost use Rattle.std.specs.Prelude.{◌≡◌, ◌≤◌, ◌<◌, ◌^◌, ◌+◌, ◌==◌, ◌&&◌, length, map, IfOk};
+ghost use Rattle.std.specs.Prelude.{◌≡◌, ◌≤◌, ◌<◌, ◌^◌, ◌+◌, ◌==◌, ◌&&◌, min, max, length, map, IfOk};
 ghost use Rattle.std.specs.List.{list_any, list_all};
 ghost use Rattle.desk_base.specs.declared.resource_rows.ResourceRow.{ResourceRow};
 ghost use Rattle.desk_base.specs.Picks.{Choice, choices_of, is_member_throughout, is_in_crew, have_one_crew};
@@ -11,7 +11,25 @@ use crate::search::members::{is_crew_kind, is_member_at};
 use desk_base::{Leaf, ResourceId, Tables};
 use std::alloc::{AllocError, Global};
 
-/// Whether the resource is a member of the crew at every minute of the leaf.
+/// 2000-01-01T00:00Z, the first minute of the horizon.
+const FIRST: u64 = 15_778_080;
+
+/// 2100-01-01T00:00Z, where the horizon ends.
+const END: u64 = 68_374_080;
+
+fn later(a: u64, b: u64) -> u64
+    ensures { result ≡ max a b }
+{
+    if a < b { b } else { a }
+}
+
+fn earlier(a: u64, b: u64) -> u64
+    ensures { result ≡ min a b }
+{
+    if a < b { a } else { b }
+}
+
+/// Whether the resource is a member of the crew at every minute of the leaf that is in the horizon.
 #[tactic(auto, unfolding(desk_base::specs::Picks::is_member_throughout))]
 fn is_member_throughout(
     alloc: Global,
@@ -23,8 +41,10 @@ fn is_member_throughout(
 ) -> Result<bool, AllocError>
     ensures { IfOk result (λ b. b ≡ is_member_throughout tables.now group id (leaf_time leaf.now start)) }
 {
-    let end = u64::from(start) + u64::from(leaf.duration);
-    for minute in u64::from(start)..end {
+    let begin = u64::from(start) + u64::from(leaf.offset);
+    let from = later(FIRST, begin);
+    let to = earlier(begin + u64::from(leaf.duration), END);
+    for minute in from..to {
         let is_there = is_member_at(alloc, tables, group, id, minute)?;
         if !is_there {
             return Ok(false);

@@ -157,12 +157,12 @@ pub fn first_broken_rule(tables: &Tables, leaf: &Leaf, id: ResourceId) -> Option
     }
 }
 
-fn is_in_own_window(leaf: &Leaf, start: u32, end: u64) -> bool
-    requires { end ≡ start + leaf.now.duration }
-    ensures { result ≡ option_map_or (is_inside (leaf_time leaf.now start)) leaf.now.window true }
+/// Whether the leaf's own window, if it has one, holds the time from one minute to another.
+fn is_in_own_window(leaf: &Leaf, from: u64, to: u64) -> bool
+    ensures { result ≡ option_map_or (is_inside (record { from = from; to = to })) leaf.now.window true }
 {
     match leaf.window {
-        Some(w) => w.from.get() <= start && end <= u64::from(w.to.get()),
+        Some(w) => u64::from(w.from.get()) <= from && to <= u64::from(w.to.get()),
         None => true,
     }
 }
@@ -170,10 +170,11 @@ fn is_in_own_window(leaf: &Leaf, start: u32, end: u64) -> bool
 fn is_in_windows(group: &GroupRow, leaf: &Leaf, start: u32) -> bool
     ensures { result ≡ is_in_windows group.now leaf.now start }
 {
-    let end = u64::from(start) + u64::from(leaf.duration);
-    group.from.get() <= start
-        && end <= u64::from(group.to.get())
-        && is_in_own_window(leaf, start, end)
+    let from = u64::from(start) + u64::from(leaf.offset);
+    let to = from + u64::from(leaf.duration);
+    u64::from(group.from.get()) <= from
+        && to <= u64::from(group.to.get())
+        && is_in_own_window(leaf, from, to)
 }
 
 fn window_rule(group: &GroupRow, leaf: &Leaf, start: u32) -> Option<LeafRule>
@@ -186,7 +187,7 @@ fn window_rule(group: &GroupRow, leaf: &Leaf, start: u32) -> Option<LeafRule>
     }
 }
 
-/// The first rule of the leaf that the resource breaks where the leaf starts at this minute; `None` where it breaks none. Last
+/// The first rule of the leaf that the resource breaks where its group starts at this minute; `None` where it breaks none. Last
 /// come the windows: the leaf must lie inside the group's, and inside its own where it has one.
 pub fn first_broken_at(
     tables: &Tables,

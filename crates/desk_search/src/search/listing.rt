@@ -1,15 +1,17 @@
 //! The listing of a group: its live positions that have a pick for each leaf.
-ghost use Rattle.std.specs.Prelude.{◌≡◌, Contains, ◌∷◌, [], ◌++◌, IfOk, OnOk};
-ghost use Rattle.desk_base.specs.Sound.{IsSound};
+ghost use Rattle.std.specs.Prelude.{◌≡◌, Contains, ◌∷◌, [], ◌++◌, map, IfOk, OnOk};
+ghost use Rattle.desk_base.specs.Sound.{AreWellFormed};
+ghost use Rattle.desk_base.specs.Load.{Fits, ask_of};
 ghost use Rattle.desk_base.specs.Listing.{IsListing};
-ghost use Rattle.desk_base.specs.Page.{found_of};
-ghost use Rattle.desk_base.specs.Positions.{rows_among};
+ghost use Rattle.desk_base.specs.Positions.{found_of, rows_among};
 
+use crate::search::intervals::shown_rows;
 use crate::search::live::live_positions;
 use desk_base::{Found, Founds, GroupRow, Items, NoMemory, Options, Position, Tables};
 use std::alloc::Global;
 
-fn found_of(alloc: Global, position: &Position) -> Result<Found, NoMemory>
+/// The row of a full position.
+pub fn found_of(alloc: Global, position: &Position) -> Result<Found, NoMemory>
     ensures { IfOk result (λ f. f ≡ found_of position.now) }
 {
     Ok(Found {
@@ -44,18 +46,21 @@ pub fn rows_among(alloc: Global, leaves: usize, positions: &[Position]) -> Resul
     Ok(rows)
 }
 
-/// The rows of a search, rising, for every group of sound tables.
+/// The listing of a search, rising, for every group of well-formed tables whose standing bookings fit: its rows, or the first
+/// ones of each start.
 pub fn rows(
     alloc: Global,
     tables: &Tables,
     group: &GroupRow,
     options: &Options,
 ) -> Result<Founds, NoMemory>
-    requires sound { IsSound tables.now }
+    requires formed { AreWellFormed tables.now }
+    requires fits { Fits tables.now (map ask_of tables.now.bookings) }
     requires there { Contains tables.now.groups group.now }
     ensures { IfOk result (IsListing tables.now group.now options.now) }
 {
     let live = live_positions(alloc, tables, group, options)?;
     let rows = rows_among(alloc, group.leaves.len(), live.as_slice())?;
-    Ok(rows)
+    let shown = shown_rows(alloc, options.per, rows)?;
+    Ok(shown)
 }

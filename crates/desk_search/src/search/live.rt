@@ -1,6 +1,7 @@
 //! The live positions of a group, by a test of each position of which every beginning is live.
 ghost use Rattle.std.specs.Prelude.{◌≡◌, Contains, ◌∷◌, [], ◌++◌, ◌≤◌, ◌+◌, length, map, IfOk, OnOk, Some, None};
-ghost use Rattle.desk_base.specs.Sound.{IsSound};
+ghost use Rattle.desk_base.specs.Sound.{AreWellFormed};
+ghost use Rattle.desk_base.specs.Load.{Fits, ask_of};
 ghost use Rattle.desk_base.specs.Listing.{IsLiveList};
 ghost use Rattle.desk_base.specs.Positions.{position_at};
 ghost use Rattle.desk_search.specs.Tests.{is_live};
@@ -57,7 +58,8 @@ fn push_from(
     picks: &mut Vec<Option<ResourceId>>,
     out: &mut Vec<Position>,
 ) -> Result<(), AllocError>
-    requires sound { IsSound tables.now }
+    requires formed { AreWellFormed tables.now }
+    requires fits { Fits tables.now (map ask_of tables.now.bookings) }
     requires there { Contains tables.now.groups group.now }
     requires complete { all.now ≡ choices tables.now }
     requires some { 1 ≤ length picks.old.items }
@@ -88,7 +90,8 @@ fn push_below(
     picks: &mut Vec<Option<ResourceId>>,
     out: &mut Vec<Position>,
 ) -> Result<(), AllocError>
-    requires sound { IsSound tables.now }
+    requires formed { AreWellFormed tables.now }
+    requires fits { Fits tables.now (map ask_of tables.now.bookings) }
     requires there { Contains tables.now.groups group.now }
     requires complete { all.now ≡ choices tables.now }
     ensures out { OnOk result (out.new.items ≡ out.old.items ++ live_below tables.now group.now options.now start picks.old.items more) }
@@ -115,14 +118,15 @@ fn push_below(
     Ok(())
 }
 
-/// The live positions of a search, rising, for every group of sound tables.
+/// The live positions of a search, rising, for every group of well-formed tables whose standing bookings fit.
 pub fn live_positions(
     alloc: Global,
     tables: &Tables,
     group: &GroupRow,
     options: &Options,
 ) -> Result<Items<Position>, NoMemory>
-    requires sound { IsSound tables.now }
+    requires formed { AreWellFormed tables.now }
+    requires fits { Fits tables.now (map ask_of tables.now.bookings) }
     requires there { Contains tables.now.groups group.now }
     ensures { IfOk result (IsLiveList tables.now group.now options.now) }
 {

@@ -136,7 +136,7 @@ pub fn weight(
     id: ResourceId,
     minute: u32,
 ) -> Result<u128, AllocError>
-    requires { length asks.now ≤ 2 ^ 20 }
+    requires { length asks.now ≤ 2 ^ 23 }
     ensures value { IfOk result (λ n. n ≡ weight tables.now asks.now id minute) }
     ensures within { IfOk result (λ n. n ≤ length asks.now * ((length tables.now.members + 1) * 2 ^ 32)) }
 {
@@ -197,7 +197,7 @@ pub fn has_room_at(
     minute: u32,
     id: ResourceId,
 ) -> Result<bool, AllocError>
-    requires { length asks.now ≤ 2 ^ 20 }
+    requires { length asks.now ≤ 2 ^ 23 }
     ensures { IfOk result (λ b. b ≡ has_room_at tables.now asks.now minute id) }
 {
     let bound = room(alloc, tables, id, minute)?;

@@ -1,11 +1,13 @@
 //! Pages of a search, cut from the list of its live positions.
-ghost use Rattle.std.specs.Prelude.{◌≡◌, Contains, ◌≤◌, length, take, filter, IfOk, option_copied};
+ghost use Rattle.std.specs.Prelude.{◌≡◌, Contains, ◌≤◌, length, take, filter, map, IfOk, option_copied};
 ghost use Rattle.std.specs.List.{last_or};
 ghost use Rattle.desk_base.specs.Limits.{page_limit, passed_limit};
-ghost use Rattle.desk_base.specs.Page.{passed_of, page_of, IsPage};
+ghost use Rattle.desk_base.specs.Page.{passed_of, page_of, IsPage, IsAskable};
 ghost use Rattle.desk_base.specs.Positions.{precedes, positions_after};
-ghost use Rattle.desk_base.specs.Sound.{IsSound};
+ghost use Rattle.desk_base.specs.Sound.{AreWellFormed};
+ghost use Rattle.desk_base.specs.Load.{Fits, ask_of};
 
+use crate::search::intervals::{due_of, shown_after};
 use crate::search::listing::rows_among;
 use crate::search::live::live_positions;
 use desk_base::{Duplicate, GroupRow, Items, NoMemory, Options, Page, Position, Tables};
@@ -99,43 +101,54 @@ fn last_or(
     }
 }
 
-/// The page that passes the first of these positions.
+/// The page over these positions: it passes the first of those that are due.
 fn page_of(
     alloc: Global,
     leaves: usize,
+    per: Option<u32>,
     after: Option<&Position>,
+    shown: u16,
     limit: u16,
-    positions: &[Position],
+    positions: Items<Position>,
 ) -> Result<Page, NoMemory>
-    ensures { IfOk result (λ p. p ≡ page_of leaves (option_copied after.entry) limit positions.now) }
+    requires { limit ≤ page_limit }
+    ensures { IfOk result (λ p. p ≡ page_of leaves per (record { after = option_copied after.entry; shown = shown }) limit positions) }
 {
-    let count = passed_len(leaves, u32::from(limit), PASSED_LIMIT, positions);
-    let here = &positions[..count];
+    let due = due_of(alloc, leaves, per, after, shown, positions)?;
+    let count = passed_len(leaves, u32::from(limit), PASSED_LIMIT, due.as_slice());
+    let here = &due.as_slice()[..count];
+    let rows = rows_among(alloc, leaves, here)?;
+    let shown = shown_after(per, after, shown, rows.as_slice(), here.last());
     Ok(Page {
-        rows: rows_among(alloc, leaves, here)?,
+        rows,
         next: last_or(alloc, after, here)?,
-        end: here.len() == positions.len(),
+        shown,
+        end: here.len() == due.len(),
     })
 }
 
-/// A page of a search, for every group of sound tables: at most `limit` rows (1 to 500) of those that come after a position,
-/// or of all. It passes at most 4,096 positions, so that it may have fewer rows, or none, though more are to come. The next
-/// page is asked for with `next`; where `end` is true there is none.
+/// A page of a search, for every group of well-formed tables whose standing bookings fit: at most `limit` rows (1 to 500) of
+/// those that come after a position, or of all. Where each start shows its first rows alone (`per`, 1 to 500), `shown` says how
+/// many of the position's start were shown before. A page passes at most 4,096 positions, so that it may have fewer rows, or
+/// none, though more are to come. The next page is asked for with `next` and `shown`; where `end` is true there is none.
 pub fn page(
     alloc: Global,
     tables: &Tables,
     group: &GroupRow,
     options: &Options,
     after: Option<&Position>,
+    shown: u16,
     limit: u16,
 ) -> Result<Page, NoMemory>
-    requires sound { IsSound tables.now }
+    requires formed { AreWellFormed tables.now }
+    requires fits { Fits tables.now (map ask_of tables.now.bookings) }
     requires there { Contains tables.now.groups group.now }
-    requires limit { (1 ≤ limit) × (limit ≤ page_limit) }
-    ensures { IfOk result (IsPage tables.now group.now options.now (option_copied after.entry) limit) }
+    requires askable { IsAskable options.now limit }
+    ensures { IfOk result (IsPage tables.now group.now options.now (record { after = option_copied after.entry; shown = shown }) limit) }
 {
     let live = live_positions(alloc, tables, group, options)?;
     let rest = positions_after(alloc, after, live)?;
-    let page = page_of(alloc, group.leaves.len(), after, limit, rest.as_slice())?;
+    let leaves = group.leaves.len();
+    let page = page_of(alloc, leaves, options.per, after, shown, limit, rest)?;
     Ok(page)
 }

@@ -58,7 +58,7 @@ pub fn is_live(
     picks: &[Option<ResourceId>],
 ) -> Result<bool, AllocError>
     requires step { 1 ≤ group.now.step }
-    requires few { length tables.now.bookings ≤ 2 ^ 19 }
+    requires few { length tables.now.bookings ≤ 2 ^ 22 }
     requires few_leaves { length group.now.leaves ≤ 2 ^ 19 }
     requires few_nodes { length group.now.nodes ≤ 2 ^ 19 }
     ensures { IfOk result (λ b. b ≡ is_live tables.now group.now options.now (position_at start picks.now)) }

@@ -15,7 +15,7 @@ fn have_room_at(
     asks: &[Ask],
     minute: u32,
 ) -> Result<bool, AllocError>
-    requires { length asks.now ≤ 2 ^ 20 }
+    requires { length asks.now ≤ 2 ^ 23 }
     ensures { IfOk result (λ b. b ≡ have_room_at tables.now asks.now minute) }
 {
     for row in tables.resources.as_slice() {
@@ -34,7 +34,7 @@ fn have_room_during(
     asks: &[Ask],
     ask: &Ask,
 ) -> Result<bool, AllocError>
-    requires { length asks.now ≤ 2 ^ 20 }
+    requires { length asks.now ≤ 2 ^ 23 }
     ensures { IfOk result (λ b. b ≡ have_room_during tables.now asks.now ask.now) }
 {
     for minute in ask.window.from.get()..ask.window.to.get() {
@@ -52,7 +52,7 @@ fn each_has_room(
     asks: &[Ask],
     new: &[Ask],
 ) -> Result<bool, AllocError>
-    requires { length asks.now ≤ 2 ^ 20 }
+    requires { length asks.now ≤ 2 ^ 23 }
     ensures { IfOk result (λ b. b ≡ list_all (have_room_during tables.now asks.now) new.now) }
 {
     for ask in new {
@@ -71,7 +71,7 @@ pub fn have_room(
     others: Vec<Ask>,
     new: &[Ask],
 ) -> Result<bool, AllocError>
-    requires { length others.items + length new.now ≤ 2 ^ 20 }
+    requires { length others.items + length new.now ≤ 2 ^ 23 }
     ensures { IfOk result (λ b. b ≡ have_room tables.now others.items new.now) }
 {
     let mut all = others;

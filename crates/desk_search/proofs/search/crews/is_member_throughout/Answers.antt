@@ -1,6 +1,7 @@
-use Rattle.std.proofs.Common.{◌≡◌, ◌+◌, ◌≤◌, ◌<◌, ◌==◌, false, sym, arith}
+use Rattle.std.proofs.Common.{◌≡◌, ◌+◌, ◌≤◌, ◌<◌, ◌==◌, ℕ, false, min, max, sym, ap, ◌∙◌, arith}
 use Rattle.std.proofs.lemmas.Grind.{common_steps}
-use Rattle.std.specs.List.{list_any}
+use Rattle.std.specs.List.{list_any, list_all, range_with_len}
+use Rattle.desk_base.specs.Limits.{first_minute, end_of_minutes}
 use Rattle.desk_base.specs.Load.{members}
 use Rattle.desk_base.specs.Picks.{is_member_throughout}
 use Rattle.desk_base.proofs.Tests.{list_all_range, list_all_range_not}
@@ -9,13 +10,16 @@ use Rattle.desk_search.proofs.search.crews.is_member_throughout.Goals as goal
 pub returns-then-not-is_there : goal.returns-then-not-is_there
 unfolding is_member_throughout
 returns-then-not-is_there c =
-    let low : c.args.start ≤ c.loop-minute.minute = omega arith in
-    let high : c.loop-minute.minute < c.args.start + c.args.leaf.now.duration = omega arith in
+    let from : c.later.result ≡ max first_minute (c.args.start + c.args.leaf.now.offset) = omega (arith, c.later.ensures) in
+    let to : c.earlier.result ≡ min (c.args.start + c.args.leaf.now.offset + c.args.leaf.now.duration) end_of_minutes = omega (arith, c.earlier.ensures) in
+    let low : c.later.result ≤ c.loop-minute.minute = omega arith in
+    let high : c.loop-minute.minute < c.earlier.result = omega arith in
     let f : list_any (λ x. x == c.args.id) (members c.args.tables.now c.args.group c.loop-minute.minute) ≡ false = grind (arith, common_steps) in
-    sym (list_all_range_not (λ m. list_any (λ x. x == c.args.id) (members c.args.tables.now c.args.group m)) c.args.start (c.args.start + c.args.leaf.now.duration) c.loop-minute.minute low high f)
+    sym (list_all_range_not (λ m. list_any (λ x. x == c.args.id) (members c.args.tables.now c.args.group m)) (max first_minute (c.args.start + c.args.leaf.now.offset)) (min (c.args.start + c.args.leaf.now.offset + c.args.leaf.now.duration) end_of_minutes) c.loop-minute.minute (omega (arith, from, low)) (omega (arith, to, high)) f)
 
 pub returns : goal.returns
 unfolding is_member_throughout
 returns c =
-    let last : c.loop-minute.minute ≡ c.args.start + c.args.leaf.now.duration = omega arith in
-    sym (list_all_range (λ m. list_any (λ x. x == c.args.id) (members c.args.tables.now c.args.group m)) c.args.start (c.args.start + c.args.leaf.now.duration) (λ k a b. c.loop-minute.invariant k a (omega arith)))
+    let from : c.later.result ≡ max first_minute (c.args.start + c.args.leaf.now.offset) = omega (arith, c.later.ensures) in
+    let to : c.earlier.result ≡ min (c.args.start + c.args.leaf.now.offset + c.args.leaf.now.duration) end_of_minutes = omega (arith, c.earlier.ensures) in
+    sym (list_all_range (λ m. list_any (λ x. x == c.args.id) (members c.args.tables.now c.args.group m)) (max first_minute (c.args.start + c.args.leaf.now.offset)) (min (c.args.start + c.args.leaf.now.offset + c.args.leaf.now.duration) end_of_minutes) (λ k a b. c.loop-minute.invariant k (omega (arith, from, a)) (omega (arith, to, b))))

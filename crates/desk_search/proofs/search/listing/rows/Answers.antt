@@ -9,4 +9,4 @@ pub returns : goal.returns
 returns c =
     let all = c.in_ok-rows.ensures ∙ ap (λ n. rows_among n c.as_slice.result.now) c.len.ensures ∙ ap (rows_among (length c.args.group.now.leaves)) c.as_slice.ensures in
     subst (IsListing c.args.tables.now c.args.group.now c.args.options.now) (sym all)
-    (full_rows c.args.tables.now c.args.group.now c.args.options.now c.in_ok-live.live (sound_group c.args.tables.now c.args.group.now c.requires.sound c.requires.there) c.in_ok-live.ensures)
+    (full_rows c.args.tables.now c.args.group.now c.args.options.now c.in_ok-live.live (sound_group c.args.tables.now c.args.group.now c.requires.formed c.requires.there) c.in_ok-live.ensures)

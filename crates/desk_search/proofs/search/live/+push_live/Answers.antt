@@ -1,8 +1,8 @@
 use Rattle.std.proofs.Common.{◌<◌, ◌≤◌, ◌-◌, ◌++◌, ◌∷◌, [], true, false, length, refl, ap, ◌∙◌, arith}
 use Rattle.std.proofs.lemmas.Grind.{common_steps}
 use Rattle.desk_base.proofs.Fewer.{Fits-others}
-use Rattle.desk_base.proofs.Shapes.{sound_group, few_bookings, few_leaves, few_nodes_of}
-use Rattle.desk_base.proofs.Sounds.{bookings_fit}
+use Rattle.desk_base.proofs.Shapes.{sound_group, few_leaves, few_nodes_of}
+use Rattle.desk_search.proofs.PlaceRefusals.{few_bookings}
 use Rattle.desk_search.proofs.Below.{tested, from_here, none_from, none_below, no_choice, next_choice, all_choices}
 use Rattle.desk_search.proofs.search.live.+push_live.Goals as goal
 
@@ -28,21 +28,21 @@ push_below-returns-clause-out t c =
     all_choices _ _ _ _ _ c.args.more c.args.all.now c.loop-choice.choice-index c.args.out.now.items c.loop-choice.out.items some outside c.requires.complete c.loop-choice.invariant.out
 
 pub push_from-is_live-requires-clause-step : goal.push_from-is_live-requires-clause-step
-push_from-is_live-requires-clause-step t c = (sound_group c.args.tables.now c.args.group.now c.requires.sound c.requires.there).step
+push_from-is_live-requires-clause-step t c = (sound_group c.args.tables.now c.args.group.now c.requires.formed c.requires.there).step
 
 pub push_from-is_live-requires-clause-few : goal.push_from-is_live-requires-clause-few
-push_from-is_live-requires-clause-few t c = omega (arith, few_bookings c.args.tables.now c.requires.sound)
+push_from-is_live-requires-clause-few t c = omega (arith, few_bookings c.args.tables.now c.requires.formed)
 
 pub push_from-is_live-requires-clause-few_leaves : goal.push_from-is_live-requires-clause-few_leaves
-push_from-is_live-requires-clause-few_leaves t c = omega (arith, few_leaves c.args.tables.now c.args.group.now c.requires.sound c.requires.there)
+push_from-is_live-requires-clause-few_leaves t c = omega (arith, few_leaves c.args.tables.now c.args.group.now c.requires.formed c.requires.there)
 
 pub push_from-is_live-requires-clause-few_nodes : goal.push_from-is_live-requires-clause-few_nodes
-push_from-is_live-requires-clause-few_nodes t c = omega (arith, few_nodes_of c.args.tables.now c.args.group.now c.requires.sound c.requires.there)
+push_from-is_live-requires-clause-few_nodes t c = omega (arith, few_nodes_of c.args.tables.now c.args.group.now c.requires.formed c.requires.there)
 
 pub push_from-returns-then-not-live-clause-out : goal.push_from-returns-then-not-live-clause-out
 push_from-returns-then-not-live-clause-out t c =
     let dead = tested _ _ _ _ _ c.in_ok-live.live false c.as_slice.result.now c.as_slice.ensures.value c.in_ok-live.ensures c.if-not-live.true in
-    none_from _ _ _ _ _ c.args.more c.args.out.now.items (Fits-others c.args.tables.now c.args.group.now (bookings_fit c.args.tables.now c.requires.sound)) (omega arith, omega arith) c.requires.some dead
+    none_from _ _ _ _ _ c.args.more c.args.out.now.items (Fits-others c.args.tables.now c.args.group.now c.requires.fits) (omega arith, omega arith) c.requires.some dead
 
 pub push_from-returns-clause-out : goal.push_from-returns-clause-out
 push_from-returns-clause-out t c =

@@ -1,0 +1,109 @@
+-- Light bookings: what they weigh, and which bookings are light.
+use Rattle.std.proofs.Common.{◌≡◌, ℕ, suc, ◌+◌, ◌*◌, ◌≤◌, Bool, true, false, cond, ◌&&◌, ◌==◌, nat_le, List, [], ◌∷◌, ◌++◌, map, filter, length, Option, inl, inr, refl, sym, ap, ◌∙◌, subst, is_none, arith}
+use Rattle.std.proofs.lemmas.List.{length-map}
+use Rattle.std.proofs.lemmas.List.Sums.{length-filter, count_by-le-length, sum_by-cons}
+use Rattle.std.proofs.lemmas.Bool.Decides.{nat_tests}
+use Rattle.std.specs.Prelude.{Contains, sum_by}
+use Rattle.std.specs.List.{AllByRecursion}
+use Rattle.desk_base.specs.Types.{Tables, BookingRow, GroupRow, Leaf, Ask, MemberRow}
+use Rattle.desk_base.specs.declared.tables.AnyRow.TheVariants.{Booking}
+use Rattle.desk_base.specs.Limits.{effort_limit}
+use Rattle.desk_base.specs.Rules.{first_broken}
+use Rattle.desk_base.specs.Time.{covers}
+use Rattle.desk_base.specs.Rows.{key_of}
+use Rattle.desk_base.specs.Fields.{is_within_range, booking_rules}
+use Rattle.desk_base.specs.Load.{LoadSort, plain, crew, pool, unknown, sort_of, members, loads, effort_at, own_load, plain_load, load, load_by, weight, ask_of}
+use Rattle.desk_base.specs.Efforts.{AreLight}
+use Rattle.desk_base.specs.Picks.{Choice, choices_of}
+use Rattle.desk_base.specs.Listing.{ask_for, asks_for}
+use Rattle.desk_base.specs.Sound.{AreWellFormed, keeps_fields}
+use Rattle.desk_base.proofs.Members.{IsIn, all_at, all_from, in-map, in_mapped, in-filter, in_from_contains, contains_from_in}
+use Rattle.desk_base.proofs.Tests.{and_left, and_right}
+use Rattle.desk_base.proofs.Shapes.{rules_kept, none_from}
+use Rattle.desk_base.proofs.NewBookings.{choice_from, leaf_light}
+
+-- ---- what one booking takes
+
+at_most : (b : Bool) (e n : ℕ) → e ≤ n → cond b e 0 ≤ n
+at_most true e n h = h
+at_most false e n h = omega arith
+
+effort_light : (a : Ask) (m n : ℕ) → a.effort ≤ n → effort_at m a ≤ n
+effort_light a m n h = at_most (covers a.window.from a.window.to m) a.effort n h
+
+own_light : (a : Ask) (r m n : ℕ) → a.effort ≤ n → own_load r m a ≤ n
+unfolding own_load
+own_light a r m n h = at_most (a.resource == r) (effort_at m a) n (effort_light a m n h)
+
+plain_light : (t : Tables) (a : Ask) (r m n : ℕ) → a.effort ≤ n → plain_load t r m a ≤ n
+unfolding plain_load
+plain_light t a r m n h = at_most (loads t a.resource r m) (effort_at m a) n (effort_light a m n h)
+
+plain_sum : (t : Tables) (a : Ask) (m n : ℕ) (xs : List ℕ) → a.effort ≤ n → sum_by (λ x. plain_load t x m a) xs ≤ length xs * n
+plain_sum t a m n [] h = omega arith
+plain_sum t a m n (x ∷ xs) h =
+    let p = plain_light t a x m n h in
+    let r = plain_sum t a m n xs h in
+    let e = sum_by-cons (λ x. plain_load t x m a) x xs in
+    grind (arith, p, r, e)
+
+few_members : (t : Tables) (r m : ℕ) → length (members t r m) ≤ length t.members
+few_members t r m =
+    let a = length-map (filter (λ (x : MemberRow). (x.group == r) && covers x.from x.to m) t.members) (λ (x : MemberRow). x.member) in
+    let b : length (filter (λ (x : MemberRow). (x.group == r) && covers x.from x.to m) t.members) ≤ length t.members = rw length-filter (count_by-le-length (λ (x : MemberRow). (x.group == r) && covers x.from x.to m) t.members) in
+    omega (arith, a, b)
+
+more_times : (j k n : ℕ) → j ≤ k → j * n ≤ k * n
+more_times j k n h = grind (arith)
+
+by_sort : (s : LoadSort) (t : Tables) (a : Ask) (r m n : ℕ) → a.effort ≤ n → load_by s t r m a ≤ (length t.members + 1) * n
+by_sort plain t a r m n h = let p = plain_light t a r m n h in let k = more_times 1 (length t.members + 1) n (omega arith) in omega (arith, p, k)
+by_sort crew t a r m n h = let p = own_light a r m n h in let k = more_times 1 (length t.members + 1) n (omega arith) in omega (arith, p, k)
+by_sort pool t a r m n h =
+    let p = own_light a r m n h in
+    let q = plain_sum t a m n (members t r m) h in
+    let k = more_times (length (members t r m)) (length t.members) n (few_members t r m) in
+    let d : (length t.members + 1) * n ≡ length t.members * n + n = grind (arith) in
+    omega (arith, p, q, k, d)
+by_sort unknown t a r m n h = omega arith
+
+load_light : (t : Tables) (a : Ask) (r m n : ℕ) → a.effort ≤ n → load t r m a ≤ (length t.members + 1) * n
+unfolding load
+load_light t a r m n h = by_sort (sort_of t r) t a r m n h
+
+-- light bookings weigh no more than their number, the memberships and one, and the greatest effort together allow
+pub weight_light : (t : Tables) (asks : List Ask) (r m : ℕ) → AreLight asks → weight t asks r m ≤ length asks * ((length t.members + 1) * effort_limit)
+weight_light t [] r m h = omega arith
+weight_light t (a ∷ asks) r m h =
+    let p = load_light t a r m effort_limit h.0 in
+    let q = weight_light t asks r m h.1 in
+    let e = sum_by-cons (load t r m) a asks in
+    let d : suc (length asks) * ((length t.members + 1) * effort_limit) ≡ (length t.members + 1) * effort_limit + length asks * ((length t.members + 1) * effort_limit) = grind (arith) in
+    omega (arith, p, q, e, d)
+
+-- ---- which bookings are light
+
+pub light-append : (xs ys : List Ask) → AreLight xs → AreLight ys → AreLight (xs ++ ys)
+light-append [] ys h k = k
+light-append (x ∷ xs) ys h k = (h.0, light-append xs ys h.1 k)
+
+booking_light : (t : Tables) (b : BookingRow) → AreWellFormed t → IsIn b t.bookings → b.effort ≤ effort_limit
+booking_light t b w i =
+    let kept = w.field (key_of (Booking b)) (Booking b) (contains_from_in (map Booking t.bookings) (Booking b) (in_mapped Booking b t.bookings i)) refl in
+    let rules = rules_kept (booking_rules b) (none_from (first_broken (booking_rules b)) (and_left (is_none (first_broken (booking_rules b))) true kept)) in
+    let e = and_right (nat_le 1 b.effort) (nat_le b.effort effort_limit) rules.1.0 in
+    grind (arith, nat_tests)
+
+-- those that stand in well-formed tables
+pub some_light : (t : Tables) (bs : List BookingRow) → AreWellFormed t → ((b : BookingRow) → IsIn b bs → IsIn b t.bookings) → AreLight (map ask_of bs)
+some_light t bs w h = all_from (λ (a : Ask). a.effort ≤ effort_limit) (map ask_of bs) (λ a i.
+    let b = in-map ask_of a bs i in
+    let l = booking_light t b.0 w (h b.0 b.1) in
+    let e = ap (λ (x : Ask). x.effort) b.2 in omega (arith, l, e))
+
+-- those of a group's picks
+pub asks_light : (t : Tables) (g : GroupRow) (s : ℕ) (picks : List (Option ℕ)) → AreWellFormed t → Contains t.groups g → AreLight (asks_for g s picks)
+asks_light t g s picks w c = all_from (λ (a : Ask). a.effort ≤ effort_limit) (asks_for g s picks) (λ a i.
+    let x = in-map (ask_for s) a (choices_of 0 g.leaves picks) i in
+    let l = leaf_light t g w c x.0.leaf (choice_from 0 g.leaves picks x.0 x.1).0 in
+    let e = ap (λ (y : Ask). y.effort) x.2 in omega (arith, l, e))

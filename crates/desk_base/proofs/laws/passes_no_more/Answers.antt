@@ -1,0 +1,5 @@
+use Rattle.desk_base.proofs.Passed.{passed_shortest}
+use Rattle.desk_base.proofs.laws.passes_no_more.Goals as goal
+
+pub returns : goal.returns
+returns c = passed_shortest
