@@ -21,7 +21,7 @@ use Rattle.desk_base.specs.Refusing.{is_key, has_place}
 use Rattle.desk_base.specs.Changes.{with_row, with_change}
 use Rattle.desk_base.specs.Acts.{after_act}
 use Rattle.desk_base.specs.Steps.{bears_on_room}
-use Rattle.desk_base.specs.Sound.{Keeps, IsSound, keeps_fields, is_counted}
+use Rattle.desk_base.specs.Sound.{Keeps, IsSound, keeps_fields, is_counted, rule_number}
 use Rattle.desk_base.proofs.Tests.{and_left, and_right}
 use Rattle.desk_base.proofs.Sounds.{bookings_fit}
 use Rattle.desk_base.proofs.RoomPuts.{HaveSameRoom, same_room_back, Fits-same, quiet_caller, fits_with_quiet}
@@ -46,14 +46,24 @@ counted_room : (t : Tables) (revision last : ℕ) → HaveSameRoom t (counted t 
 unfolding capacity calendar_capacity
 counted_room t revision last = record { sorts = λ r. refl; members = λ g m. refl; capacities = λ r m. refl }
 
-counted_keeps : (t : Tables) (revision last : ℕ) → IsSound t → is_counted (counted t revision last) ≡ true → (rule : TableRule) (k : Key) → Keeps rule (counted t revision last) k
-counted_keeps t revision last s h Order k = λ before after j e. s.keeps Order k before after j (ap (map key_of) (sym (counted_rows t revision last k.table)) ∙ e)
-counted_keeps t revision last s h Limit k = λ before after e. s.keeps Limit k before after (ap (map key_of) (sym (counted_rows t revision last k.table)) ∙ e)
-counted_keeps t revision last s h Field k = λ row c e. counted_fields t revision last row ∙ s.keeps Field k row (subst (λ l. Contains l row) (counted_rows t revision last k.table) c) e
-counted_keeps t revision last s h Citation k = λ row c r e i.
+-- the rules but the last do not look at the counters
+pub counted_keeps_rows : (t : Tables) (revision last : ℕ) → IsSound t → (rule : TableRule) (k : Key) → rule_number rule < 7 → Keeps rule (counted t revision last) k
+counted_keeps_rows t revision last s Order k low = λ before after j e. s.keeps Order k before after j (ap (map key_of) (sym (counted_rows t revision last k.table)) ∙ e)
+counted_keeps_rows t revision last s Limit k low = λ before after e. s.keeps Limit k before after (ap (map key_of) (sym (counted_rows t revision last k.table)) ∙ e)
+counted_keeps_rows t revision last s Field k low = λ row c e. counted_fields t revision last row ∙ s.keeps Field k row (subst (λ l. Contains l row) (counted_rows t revision last k.table) c) e
+counted_keeps_rows t revision last s Citation k low = λ row c r e i.
     subst (λ l. Contains (map key_of l) c) (sym (counted_rows t revision last c.table)) (s.keeps Citation k row c (subst (λ l. Contains l row) (counted_rows t revision last k.table) r) e i)
-counted_keeps t revision last s h FitsRule k = λ e m i. (Fits-same t (counted t revision last) (counted_room t revision last) (map ask_of t.bookings) (bookings_fit t s)).at k.a m i
-counted_keeps t revision last s h Booked k = λ g c e. booked_alike t (counted t revision last) g refl (s.keeps Booked k g c e)
+counted_keeps_rows t revision last s FitsRule k low = λ e m i. (Fits-same t (counted t revision last) (counted_room t revision last) (map ask_of t.bookings) (bookings_fit t s)).at k.a m i
+counted_keeps_rows t revision last s Booked k low = λ g c e. booked_alike t (counted t revision last) g refl (s.keeps Booked k g c e)
+counted_keeps_rows t revision last s Count k low = absurd (omega (arith, low))
+
+counted_keeps : (t : Tables) (revision last : ℕ) → IsSound t → is_counted (counted t revision last) ≡ true → (rule : TableRule) (k : Key) → Keeps rule (counted t revision last) k
+counted_keeps t revision last s h Order k = counted_keeps_rows t revision last s Order k (omega arith)
+counted_keeps t revision last s h Limit k = counted_keeps_rows t revision last s Limit k (omega arith)
+counted_keeps t revision last s h Field k = counted_keeps_rows t revision last s Field k (omega arith)
+counted_keeps t revision last s h Citation k = counted_keeps_rows t revision last s Citation k (omega arith)
+counted_keeps t revision last s h FitsRule k = counted_keeps_rows t revision last s FitsRule k (omega arith)
+counted_keeps t revision last s h Booked k = counted_keeps_rows t revision last s Booked k (omega arith)
 counted_keeps t revision last s h Count k = λ e. h
 
 -- sound tables stay sound with other counters that hold

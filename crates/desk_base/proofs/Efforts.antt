@@ -87,6 +87,14 @@ pub light-append : (xs ys : List Ask) → AreLight xs → AreLight ys → AreLig
 light-append [] ys h k = k
 light-append (x ∷ xs) ys h k = (h.0, light-append xs ys h.1 k)
 
+pub light-left : (xs ys : List Ask) → AreLight (xs ++ ys) → AreLight xs
+light-left [] ys h = tt
+light-left (x ∷ xs) ys h = (h.0, light-left xs ys h.1)
+
+pub light-right : (xs ys : List Ask) → AreLight (xs ++ ys) → AreLight ys
+light-right [] ys h = h
+light-right (x ∷ xs) ys h = light-right xs ys h.1
+
 booking_light : (t : Tables) (b : BookingRow) → AreWellFormed t → IsIn b t.bookings → b.effort ≤ effort_limit
 booking_light t b w i =
     let kept = w.field (key_of (Booking b)) (Booking b) (contains_from_in (map Booking t.bookings) (Booking b) (in_mapped Booking b t.bookings i)) refl in

@@ -42,7 +42,7 @@ counts_split d [] = refl
 counts_split d (p ∷ ps) = split_step (nat_lt d p.depth) p ps (children d ps) (siblings_after d ps) (counts_split d ps)
 
 -- what the rules say of the nodes from one on
-abbrev AllOrdered : Option Node → List Node → Type 0
+abbrev pub AllOrdered : Option Node → List Node → Type 0
 AllOrdered before [] = Unit {0}
 AllOrdered before (n ∷ ns) = (is_in_order before n ≡ true) × AllOrdered (Some n) ns
 
@@ -66,7 +66,7 @@ last_fault : (leaves size i : ℕ) (b : Bool) → (leaves == size) ≡ b → end
 last_fault leaves size i true h e = grind (arith, nat_tests)
 last_fault leaves size i false h e = absurd (false≢true (ap is_none e))
 
-ordered_from : (size i leaves : ℕ) (before : Option Node) (ns : List Node) → node_fault size i leaves before ns ≡ None → AllOrdered before ns × (leaves + leaf_nodes ns ≡ size)
+pub ordered_from : (size i leaves : ℕ) (before : Option Node) (ns : List Node) → node_fault size i leaves before ns ≡ None → AllOrdered before ns × (leaves + leaf_nodes ns ≡ size)
 ordered_from size i leaves before [] e = (tt, omega (arith, last_fault leaves size i (leaves == size) refl e))
 ordered_from size i leaves before (n ∷ ns) e =
     let f = fault_none (first_broken (node_rules i leaves before n ns)) i (node_fault size (i + 1) (leaves + leaf_bit n) (Some n) ns) e in
@@ -92,7 +92,7 @@ not_deeper n m k h =
     grind (arith, nat_tests)
 
 -- a leaf node has no deeper node after it
-no_children : (n : Node) (ns : List Node) → n.kind ≡ Leaf → AllOrdered (Some n) ns → children n.depth (trees_of ns) ≡ none
+pub no_children : (n : Node) (ns : List Node) → n.kind ≡ Leaf → AllOrdered (Some n) ns → children n.depth (trees_of ns) ≡ none
 no_children n [] k h = refl
 no_children n (m ∷ ms) k h = first_depth n.depth m ms (not_deeper n m k h.0)
 

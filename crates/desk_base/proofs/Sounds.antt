@@ -100,8 +100,11 @@ ids_rise (x ∷ xs) s = (
   ids_rise xs s.1,
 )
 
+pub resources_in_order : (t : Tables) → ((k : Key) → Keeps Order t k) → IsStrictlySortedBy nat_cmp (map (λ (x : ResourceRow). x.id) t.resources)
+resources_in_order t keeps = ids_rise t.resources (keys_in_order t ResourceTable keeps)
+
 pub resources_rise : (t : Tables) → IsSound t → IsStrictlySortedBy nat_cmp (map (λ (x : ResourceRow). x.id) t.resources)
-resources_rise t s = ids_rise t.resources (keys_rise t ResourceTable s)
+resources_rise t s = resources_in_order t (s.keeps Order)
 
 split_at : {A : Type 0} (n : ℕ) (xs : List A) → n < length xs → (before : List A) × (k : A) × (after : List A) × (xs ≡ before ++ k ∷ after) × (length before ≡ n)
 split_at n [] h = absurd (omega arith)

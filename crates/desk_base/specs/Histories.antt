@@ -1,10 +1,17 @@
 -- Journals: which are legal over the tables at an opening, and the tables after one.
-use Rattle.std.specs.Prelude.{ℕ, List, [], ◌∷◌, ◌++◌, fold, ◌≡◌, ⊤}
+use Rattle.std.specs.Prelude.{ℕ, ◌+◌, ◌≤◌, ◌<◌, List, [], ◌∷◌, ◌++◌, fold, ◌≡◌, ⊤}
 use Rattle.desk_base.specs.Types.{Tables}
+use Rattle.desk_base.specs.declared.booking_rows.Receipt.{Receipt}
+use Rattle.desk_base.specs.declared.booking_rows.Receipt.TheVariants as receipt
 use Rattle.desk_base.specs.declared.changes.Entry.{Entry}
 use Rattle.desk_base.specs.Acts.{after_act}
 use Rattle.desk_base.specs.Steps.{IsAccepted, entry_of, kept_receipt}
 use Rattle.std.specs.Prelude.{None}
+
+-- the receipt names the booking of this number
+abbrev pub IsNumbered : Receipt → ℕ → Type 0
+IsNumbered (receipt.Booked first count effort_minutes) n = (first ≤ n) × (n < first + count)
+IsNumbered _ n = ⊥
 
 -- the tables after a journal's changes, one after another
 abbrev pub after_journal : Tables → List Entry → Tables

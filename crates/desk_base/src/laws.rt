@@ -1,7 +1,12 @@
 //! Laws of the definitions: each is the contract of a function that does nothing.
-ghost use Rattle.std.specs.Prelude.{◌≡◌, ◌+◌, ◌++◌, ◌≤◌, ℕ, List, Option, Some, false, length, sum_by, Contains};
-ghost use Rattle.desk_base.specs.Types.{Tables, GroupRow, BookingRow, Found, Position, Options, Ask, Page};
-ghost use Rattle.desk_base.specs.Load.{weight, own_load, members, sort_of, pool, IsClash};
+ghost use Rattle.std.specs.Prelude.{◌≡◌, ◌+◌, ◌++◌, ◌∷◌, ◌≤◌, ◌<◌, ℕ, List, Option, Some, None, false, length, map, sum_by, Contains};
+ghost use Rattle.desk_base.specs.Histories.{IsLegal, IsNumbered};
+ghost use Rattle.desk_base.specs.Trees.{tree_by, children, trees_of, leaf_count, is_leaf};
+ghost use Rattle.desk_base.specs.TreeRules.{tree_fault};
+ghost use Rattle.desk_base.specs.Picks.{leaves_under};
+ghost use Rattle.desk_base.specs.declared.changes.Entry.{Entry};
+ghost use Rattle.desk_base.specs.Types.{Tables, GroupRow, Node, BookingRow, Found, Position, Options, Ask, Page};
+ghost use Rattle.desk_base.specs.Load.{weight, own_load, members, sort_of, pool, Fits, ask_of, IsClash};
 ghost use Rattle.desk_base.specs.Listing.{IsLive, IsRow, AreRows, IsListing, IsLiveList};
 ghost use Rattle.desk_base.specs.Page.{ResumePoint, beginning, passed_of, IsPage, AreResumed, Joins, PassesOne, IsShortest};
 ghost use Rattle.desk_base.specs.Positions.{position_at, found_of, rows_among};
@@ -18,6 +23,11 @@ pub fn trial_is_sound()
 /// Sound tables are what calls ask for.
 pub fn sound_tables_are_well_formed()
     ensures { (t : Tables) → IsSound t → AreWellFormed t }
+{}
+
+/// In sound tables the standing bookings fit.
+pub fn standing_bookings_fit()
+    ensures { (t : Tables) → IsSound t → Fits t (map ask_of t.bookings) }
 {}
 
 /// The weights of two lists of bookings add up.
@@ -80,6 +90,19 @@ pub fn pages_agree()
 /// last says that it ends.
 pub fn pages_join()
     ensures { (t : Tables) (g : GroupRow) (o : Options) (pages : List Page) (listing : List Found) → AreWellFormed t → Contains t.groups g → IsListing t g o listing → AreResumed t g o beginning pages → Joins t g o pages listing }
+{}
+
+/// What stands under an inner node of a tree counts as many leaves as the node's tree.
+pub fn leaves_under_are_counted()
+    ensures { (front ns : List Node) (n : Node) (size : ℕ) → tree_fault (front ++ n ∷ ns) size ≡ None → is_leaf n.kind ≡ false
+        → leaves_under n.depth ns ≡ leaf_count (tree_by n.kind (children n.depth (trees_of ns))) }
+{}
+
+/// A booking number is never given again: in a legal journal those of a later entry are above those of an earlier one, and all
+/// of them above those that were given before the opening.
+pub fn booking_numbers_rise()
+    ensures { (opened : Tables) (before between after : List Entry) (e f : Entry) (m n : ℕ) → IsLegal opened (before ++ e ∷ (between ++ f ∷ after)) → IsNumbered e.receipt m → IsNumbered f.receipt n
+        → (opened.last_booking < m) × (m < n) }
 {}
 
 /// Of a start and picks at most one verdict holds.

@@ -18,7 +18,7 @@ use Rattle.desk_batch.specs.declared.paging.Asked.{Asked}
 use Rattle.desk_batch.specs.declared.paging.Parameter.{Parameter}
 use Rattle.desk_batch.specs.declared.paging.Parameter.TheVariants as parameter
 use Rattle.desk_batch.specs.declared.paging.Part.{Part}
-use Rattle.desk_batch.specs.declared.paging.Part.TheVariants.{Limit, After, Latest, From, To}
+use Rattle.desk_batch.specs.declared.paging.Part.TheVariants.{Limit, After, Latest, From, To, Per}
 use Rattle.desk_batch.specs.Paging.{part_text, IsPart, gives, is_once, asked_by, query_text, AreParts}
 use Rattle.desk_batch.specs.RequestReading.{Finds, IsNumber, IsMomentOf, IsNumberBehind, IsMomentBehind, IsAfterPart, IsPartOf, IsShortPartOf, ArePartsOf, IsAskedIn, IsAskedBehind}
 use Rattle.desk_batch.proofs.PieceLemmas.{Lacks, decimal_lacks, pieces_of_joined, text_of_pieces, some_pieces}
@@ -48,13 +48,14 @@ behind_name Holds text_of name piece rest None e h = λ x is. h x (is.0, append_
 
 -- ---- one part
 
-pub no_short : (piece : List ℕ) → piece ≢ codes "at=latest" → ((n : ℕ) → ¬ (IsNumberBehind (codes "limit=") piece n)) → ((m : ℕ) → ¬ (IsMomentBehind (codes "from=") piece m))
+pub no_short : (piece : List ℕ) → piece ≢ codes "at=latest" → ((n : ℕ) → ¬ (IsNumberBehind (codes "limit=") piece n)) → ((n : ℕ) → ¬ (IsNumberBehind (codes "per=") piece n)) → ((m : ℕ) → ¬ (IsMomentBehind (codes "from=") piece m))
     → ((m : ℕ) → ¬ (IsMomentBehind (codes "to=") piece m)) → (part : Part) → ¬ (IsShortPartOf piece part)
-no_short piece latest limit from to (Limit n) is = limit n is
-no_short piece latest limit from to (After c) is = is
-no_short piece latest limit from to Latest is = latest is.1
-no_short piece latest limit from to (From m) is = from m is
-no_short piece latest limit from to (To m) is = to m is
+no_short piece latest limit per from to (Limit n) is = limit n is
+no_short piece latest limit per from to (After c) is = is
+no_short piece latest limit per from to Latest is = latest is.1
+no_short piece latest limit per from to (From m) is = from m is
+no_short piece latest limit per from to (To m) is = to m is
+no_short piece latest limit per from to (Per n) is = per n is
 
 pub no_part : (piece : List ℕ) → ((part : Part) → ¬ (IsShortPartOf piece part)) → ((c : Cursor) → ¬ (IsAfterPart piece c)) → (part : Part) → ¬ (IsPartOf piece part)
 no_part piece short after (Limit n) is = short (Limit n) is
@@ -62,6 +63,7 @@ no_part piece short after (After c) is = after c is
 no_part piece short after Latest is = short Latest is
 no_part piece short after (From m) is = short (From m) is
 no_part piece short after (To m) is = short (To m) is
+no_part piece short after (Per n) is = short (Per n) is
 
 pub short_is_part : (piece : List ℕ) (part : Part) → IsShortPartOf piece part → IsPartOf piece part
 short_is_part piece (Limit n) is = is
@@ -69,6 +71,7 @@ short_is_part piece (After c) is = absurd is
 short_is_part piece Latest is = is
 short_is_part piece (From m) is = is
 short_is_part piece (To m) is = is
+short_is_part piece (Per n) is = is
 
 -- no parts have a piece that is the text of none
 pub no_parts : (pieces : List (Bor (List ℕ))) (i : ℕ) (d : Bor (List ℕ)) → i < length pieces → ((part : Part) → ¬ (IsPartOf (get_or pieces i d).now part)) → (parts : List Part)
@@ -104,6 +107,7 @@ marks parameter.After text = get_or text 1 0 == 102
 marks parameter.At text = get_or text 1 0 == 116
 marks parameter.From text = get_or text 0 0 == 102
 marks parameter.To text = get_or text 0 0 == 116
+marks parameter.Per text = get_or text 0 0 == 112
 
 gives-marks : (name : Parameter) (part : Part) → gives name part ≡ marks name (part_text part)
 gives-marks parameter.Limit (Limit n) = refl
@@ -111,6 +115,7 @@ gives-marks parameter.After (After c) = refl
 gives-marks parameter.At Latest = refl
 gives-marks parameter.From (From m) = refl
 gives-marks parameter.To (To m) = refl
+gives-marks parameter.Per (Per n) = refl
 gives-marks _ _ = refl
 
 count_marked : (name : Parameter) (parts : List Part) → count_by (gives name) parts ≡ count_by (marks name) (map part_text parts)
@@ -125,7 +130,7 @@ count_marked name (part ∷ parts) =
 once_same : (ps qs : List Part) → map part_text ps ≡ map part_text qs → is_once ps ≡ is_once qs
 once_same ps qs e =
     let same : (name : Parameter) → count_by (gives name) ps ≡ count_by (gives name) qs = λ name. count_marked name ps ∙ ap (count_by (marks name)) e ∙ sym (count_marked name qs) in
-    rw (same parameter.Limit, same parameter.After, same parameter.At, same parameter.From, same parameter.To) refl
+    rw (same parameter.Limit, same parameter.After, same parameter.At, same parameter.From, same parameter.To, same parameter.Per) refl
 
 -- ---- all parts
 
@@ -155,17 +160,18 @@ moment_lacks m =
 behind_lacks : (name rest : List ℕ) → AllByRecursion IsNoAnd name → Lacks 38 rest → Lacks 38 (name ++ rest)
 behind_lacks name rest free free' = All-append IsNoAnd name rest (All-from_recursion IsNoAnd name free) free'
 
--- the text of a cursor has no bytes but digits, points and dashes
+-- the text of a cursor has no bytes but digits, points, dashes and underlines
 abbrev pub CursorsArePlain : Type 0
-CursorsArePlain = (byte : ℕ) (c : Cursor) → (byte < 45) ⊎ (57 < byte) → IsCursor c → Lacks byte (cursor_text c)
+CursorsArePlain = (byte : ℕ) (c : Cursor) → (byte < 45) ⊎ (57 < byte) → byte ≢ 95 → IsCursor c → Lacks byte (cursor_text c)
 
 module _ (plain : CursorsArePlain) where
   part_lacks : (part : Part) → IsPart part → Lacks 38 (part_text part)
   part_lacks (Limit n) small = behind_lacks (codes "limit=") (decimal n) (refl, (refl, (refl, (refl, (refl, (refl, tt)))))) (decimal_lacks 38 n (omega arith) (inl (omega arith)))
-  part_lacks (After c) is = behind_lacks (codes "after=") _ (refl, (refl, (refl, (refl, (refl, (refl, tt)))))) (plain 38 c (inl (omega arith)) is)
+  part_lacks (After c) is = behind_lacks (codes "after=") _ (refl, (refl, (refl, (refl, (refl, (refl, tt)))))) (plain 38 c (inl (omega arith)) (λ e. omega (arith, e)) is)
   part_lacks Latest is = All-from_recursion IsNoAnd (codes "at=latest") (refl, (refl, (refl, (refl, (refl, (refl, (refl, (refl, (refl, tt)))))))))
   part_lacks (From m) is = behind_lacks (codes "from=") (moment_text m) (refl, (refl, (refl, (refl, (refl, tt))))) (moment_lacks m)
   part_lacks (To m) is = behind_lacks (codes "to=") (moment_text m) (refl, (refl, (refl, tt))) (moment_lacks m)
+  part_lacks (Per n) small = behind_lacks (codes "per=") (decimal n) (refl, (refl, (refl, (refl, tt)))) (decimal_lacks 38 n (omega arith) (inl (omega arith)))
 
   pub each_lacks : (parts : List Part) → All IsPart parts → AllByRecursion (Lacks 38) (map part_text parts)
   each_lacks [] each = tt

@@ -17,7 +17,7 @@ use Rattle.desk_json.specs.CursorReading.{IsCursor}
 use Rattle.desk_json.specs.Decimals.{IsId}
 use Rattle.desk_json.specs.declared.faults.BodyError.{BodyError}
 use Rattle.desk_batch.specs.declared.paging.Part.{Part}
-use Rattle.desk_batch.specs.declared.paging.Part.TheVariants.{Limit, After, Latest, From, To}
+use Rattle.desk_batch.specs.declared.paging.Part.TheVariants.{Limit, After, Latest, From, To, Per}
 use Rattle.desk_batch.specs.declared.requests.Routed.{Routed}
 use Rattle.desk_batch.specs.declared.requests.Routed.TheVariants.{Command, Refused}
 use Rattle.desk_batch.specs.declared.requests.WebRefusal.TheVariants.{NotBuilt}
@@ -59,6 +59,7 @@ module _ (one_cursor : (c d : Cursor) → IsCursor c → IsCursor d → cursor_t
   part_same Latest Latest i j e = refl
   part_same (From m) (From n) i j e = ap (λ x. From x) (moment_same m n i j (append_cancel_left (codes "from=") (moment_text m) (moment_text n) e))
   part_same (To m) (To n) i j e = ap (λ x. To x) (moment_same m n i j (append_cancel_left (codes "to=") (moment_text m) (moment_text n) e))
+  part_same (Per m) (Per n) i j e = ap (λ x. Per x) (decimal_injective m n (omega (arith, i)) (omega (arith, j)) (append_cancel_left (codes "per=") (decimal m) (decimal n) e))
   part_same p q i j e = absurd (omega (arith, ap (λ t. get_or t 0 0) e, ap (λ t. get_or t 1 0) e))
 
   parts_same : (ps qs : List Part) → All IsPart ps → All IsPart qs → map part_text ps ≡ map part_text qs → ps ≡ qs

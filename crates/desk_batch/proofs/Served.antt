@@ -29,7 +29,7 @@ act_served : (act : Act) → IsAskedAct act → IsServed act
 act_served (Put row) is = row_served row is
 act_served (PutGroup g) is = record {
   nodes = is.nodes;
-  leaf = plain_leaf is.duration is.effort;
+  leaf = plain_leaf is.duration is.offset is.effort;
   leaves = is.leaves;
   plain = record { kinds = refl; roles = refl; characteristics = refl; territories = refl; units = refl; required = refl; restricted = refl; window = refl };
 }

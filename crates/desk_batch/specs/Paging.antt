@@ -9,7 +9,7 @@ use Rattle.desk_batch.specs.declared.paging.Asked.{Asked}
 use Rattle.desk_batch.specs.declared.paging.Parameter.{Parameter}
 use Rattle.desk_batch.specs.declared.paging.Parameter.TheVariants as parameter
 use Rattle.desk_batch.specs.declared.paging.Part.{Part}
-use Rattle.desk_batch.specs.declared.paging.Part.TheVariants.{Limit, After, Latest, From, To}
+use Rattle.desk_batch.specs.declared.paging.Part.TheVariants.{Limit, After, Latest, From, To, Per}
 
 -- a parameter and its value
 abbrev pub part_text : Part → List ℕ
@@ -18,6 +18,7 @@ part_text (After c) = codes "after=" ++ cursor_text c
 part_text Latest = codes "at=latest"
 part_text (From m) = codes "from=" ++ moment_text m
 part_text (To m) = codes "to=" ++ moment_text m
+part_text (Per n) = codes "per=" ++ decimal n
 
 -- the value is one that the parameter can have
 abbrev pub IsPart : Part → Type 0
@@ -26,6 +27,7 @@ IsPart (After c) = IsCursor c
 IsPart Latest = ⊤
 IsPart (From m) = IsMoment m
 IsPart (To m) = IsMoment m
+IsPart (Per n) = n < 2 ^ 32
 
 -- the part gives this parameter
 abbrev pub gives : Parameter → Part → Bool
@@ -34,11 +36,12 @@ gives parameter.After (After c) = true
 gives parameter.At Latest = true
 gives parameter.From (From m) = true
 gives parameter.To (To m) = true
+gives parameter.Per (Per n) = true
 gives _ _ = false
 
 -- the parameters that there are
 abbrev pub all_parameters : List Parameter
-all_parameters = parameter.Limit ∷ parameter.After ∷ parameter.At ∷ parameter.From ∷ parameter.To ∷ []
+all_parameters = parameter.Limit ∷ parameter.After ∷ parameter.At ∷ parameter.From ∷ parameter.To ∷ parameter.Per ∷ []
 
 -- no parameter is given twice
 abbrev pub is_once : List Part → Bool
@@ -46,7 +49,7 @@ is_once parts = list_all (λ name. nat_le (count_by (gives name) parts) 1) all_p
 
 -- what is asked where no parameter is given
 abbrev pub nothing_asked : Asked
-nothing_asked = record { limit = None; after = None; latest = false; from = None; to = None }
+nothing_asked = record { limit = None; after = None; latest = false; from = None; to = None; per = None }
 
 -- what is asked with one part more
 abbrev pub with_part : Asked → Part → Asked
@@ -55,6 +58,7 @@ with_part asked (After c) = record asked { after = Some c }
 with_part asked Latest = record asked { latest = true }
 with_part asked (From m) = record asked { from = Some m }
 with_part asked (To m) = record asked { to = Some m }
+with_part asked (Per n) = record asked { per = Some n }
 
 -- what the parts ask together
 abbrev pub asked_by : List Part → Asked

@@ -7,7 +7,7 @@ use Rattle.desk_time.specs.Moments.{moment_text}
 use Rattle.desk_json.specs.Decimals.{IsId}
 use Rattle.desk_batch.specs.declared.paging.Asked.{Asked}
 use Rattle.desk_batch.specs.declared.paging.Part.{Part}
-use Rattle.desk_batch.specs.declared.paging.Part.TheVariants.{Limit, After, Latest, From, To}
+use Rattle.desk_batch.specs.declared.paging.Part.TheVariants.{Limit, After, Latest, From, To, Per}
 use Rattle.desk_batch.specs.Paging.{part_text, IsPart, AreParts, nothing_asked, asked_by, query_text}
 use Rattle.desk_batch.specs.Requesting.{rows_target, rows_of}
 
@@ -43,6 +43,7 @@ IsShortPartOf text (After c) = ⊥
 IsShortPartOf text Latest = IsPartOf text Latest
 IsShortPartOf text (From m) = IsPartOf text (From m)
 IsShortPartOf text (To m) = IsPartOf text (To m)
+IsShortPartOf text (Per n) = IsPartOf text (Per n)
 
 -- the text is that of the part that gives this cursor
 abbrev pub IsAfterPart : List ℕ → Cursor → Type 0

@@ -24,7 +24,7 @@ rows_target group = codes "/groups/" ++ decimal group ++ codes "/rows"
 
 -- the question for a page of a group's rows
 abbrev pub rows_of : ℕ → AskedOfPage → Query
-rows_of group asked = Rows group (record { from = asked.from; to = asked.to }) asked.after asked.latest (unwrap_or asked.limit default_limit)
+rows_of group asked = Rows group (record { from = asked.from; to = asked.to; per = asked.per }) asked.after asked.latest (unwrap_or asked.limit default_limit)
 
 -- the target asks this question about the rows of a group
 pub record AsksRows (target : List ℕ) (query : Query) : Type 0 where

@@ -18,6 +18,7 @@ pub(crate) enum Parameter {
     At,
     From,
     To,
+    Per,
 }
 
 /// A parameter with its value.
@@ -28,6 +29,7 @@ pub(crate) enum Part {
     Latest,
     From(Minute),
     To(Minute),
+    Per(u32),
 }
 
 /// What a query asks of a page.
@@ -38,6 +40,7 @@ pub(crate) struct Asked {
     pub(crate) latest: bool,
     pub(crate) from: Option<Minute>,
     pub(crate) to: Option<Minute>,
+    pub(crate) per: Option<u32>,
 }
 
 /// What stands behind a name.
@@ -104,6 +107,9 @@ fn read_short(piece: &[u8]) -> Option<Part>
     if let Some(limit) = number_behind(b"limit=", piece) {
         return Some(Part::Limit(limit));
     }
+    if let Some(per) = number_behind(b"per=", piece) {
+        return Some(Part::Per(per));
+    }
     if let Some(from) = moment_behind(b"from=", piece) {
         return Some(Part::From(from));
     }
@@ -147,17 +153,19 @@ fn gives(name: Parameter, part: &Part) -> bool
         (Parameter::At, Part::Latest) => true,
         (Parameter::From, Part::From(_)) => true,
         (Parameter::To, Part::To(_)) => true,
+        (Parameter::Per, Part::Per(_)) => true,
         _ => false,
     }
 }
 
 /// The parameters that there are.
-const PARAMETERS: [Parameter; 5] = [
+const PARAMETERS: [Parameter; 6] = [
     Parameter::Limit,
     Parameter::After,
     Parameter::At,
     Parameter::From,
     Parameter::To,
+    Parameter::Per,
 ];
 
 /// How often a parameter is given.
@@ -184,6 +192,7 @@ pub(crate) fn nothing_asked() -> Asked
         latest: false,
         from: None,
         to: None,
+        per: None,
     }
 }
 
@@ -209,6 +218,10 @@ fn with_part(asked: Asked, part: Part) -> Asked
         },
         Part::To(to) => Asked {
             to: Some(to),
+            ..asked
+        },
+        Part::Per(per) => Asked {
+            per: Some(per),
             ..asked
         },
     }

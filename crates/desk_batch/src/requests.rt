@@ -69,6 +69,7 @@ fn rows(group: GroupId, asked: Asked) -> Query
         options: Options {
             from: asked.from,
             to: asked.to,
+            per: asked.per,
         },
         after: asked.after,
         latest: asked.latest,

@@ -19,7 +19,7 @@ use Rattle.desk_base.specs.Sound.{IsSound}
 use Rattle.desk_base.specs.Picks.{choices_of, pattern_of}
 use Rattle.desk_base.proofs.Members.{IsIn, in-append, in-map, in-flat_map, in_left, in_right, in_from_contains}
 use Rattle.desk_base.proofs.Tests.{and_right}
-use Rattle.desk_base.proofs.Sounds.{group_kept}
+use Rattle.desk_base.proofs.Sounds.{group_kept, well_formed}
 use Rattle.desk_base.proofs.Shapes.{rules_kept, none_from, sound_group}
 use Rattle.desk_base.proofs.Patterns.{length-pattern}
 
@@ -154,6 +154,6 @@ some_chosen t g picks s c p =
     let fault = none_from (tree_fault g.nodes (length g.leaves)) (and_right (is_none (first_broken (group_rules g))) (is_none (tree_fault g.nodes (length g.leaves))) (group_kept t g s c)) in
     let i = in_from_contains (patterns (tree_of g.nodes)) (pattern_of picks) p in
     let a = length-pattern (tree_of g.nodes) (pattern_of picks) i in
-    let b = (sound_group t g s c).leaves in
+    let b = (sound_group t g (well_formed t s) c).leaves in
     let d = length-map picks (λ (x : Option ℕ). is_some x) in
     some_choice 0 g.leaves picks (omega arith) (chosen (tree_of g.nodes) (pattern_of picks) (full_tree g.nodes (length g.leaves) fault) i)

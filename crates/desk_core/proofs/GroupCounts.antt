@@ -11,6 +11,7 @@ use Rattle.desk_base.specs.declared.tables.Key.{Key}
 use Rattle.desk_base.specs.declared.tables.Table.TheVariants.{Group as GroupTable, Booking as BookingTable}
 use Rattle.desk_base.specs.declared.tables.AnyRow.TheVariants.{Group, Booking}
 use Rattle.desk_base.specs.declared.rules.TableRule.TheVariants.{Citation, Booked}
+use Rattle.desk_base.specs.Limits.{node_limit}
 use Rattle.desk_base.specs.Keys.{id_key}
 use Rattle.desk_base.specs.Rows.{key_of, citations_of}
 use Rattle.desk_base.specs.Groups.{booked_for}
@@ -19,6 +20,7 @@ use Rattle.desk_base.specs.Picks.{Choice, choices_of}
 use Rattle.desk_base.specs.Listing.{ask_for}
 use Rattle.desk_base.specs.Sound.{IsSound, IsBooked, bookings_of}
 use Rattle.desk_base.proofs.Members.{IsIn, in-map, in-filter, in_mapped, contains_from_in, in_from_contains}
+use Rattle.desk_base.proofs.Sounds.{well_formed}
 use Rattle.desk_base.proofs.Shapes.{few_leaves}
 
 -- ---- rows that are told apart by a small number
@@ -147,10 +149,10 @@ few_of_booked t g h =
     few_by_number (λ (b : BookingRow). b.leaf) (length g.leaves) (bookings_of t g) (λ j. let e = same_count t g h j in let o = one_at j 0 g.leaves h.picks in omega arith)
     (λ j b. same_count t g h j ∙ none_past j 0 g.leaves h.picks (omega arith))
 
-few_of_group : (t : Tables) (g : GroupRow) → IsSound t → Contains t.groups g → length (bookings_of t g) ≤ 32
+few_of_group : (t : Tables) (g : GroupRow) → IsSound t → Contains t.groups g → length (bookings_of t g) ≤ node_limit
 few_of_group t g s c = elim (s.keeps Booked (id_key GroupTable g.id) g c refl) [
   | inl e ↦ let l = ap length e in omega arith
-  | inr h ↦ let a = few_of_booked t g h in let b = few_leaves t g s c in omega arith
+  | inr h ↦ let a = few_of_booked t g h in let b = few_leaves t g (well_formed t s) c in omega arith
 ]
 
 -- a booking's group is there
@@ -161,18 +163,18 @@ group_of_booking t b s i =
     let g = in-map Group k.0 t.groups k.1 in
     (g.0, g.1, sym (ap (λ (x : Key). x.a) (k.2 ∙ ap key_of g.2)))
 
-few_filtered : (t : Tables) (id : ℕ) → IsSound t → (bs : List BookingRow) → booked_for t id ≡ bs → length bs ≤ 32
+few_filtered : (t : Tables) (id : ℕ) → IsSound t → (bs : List BookingRow) → booked_for t id ≡ bs → length bs ≤ node_limit
 few_filtered t id s [] e = omega arith
 few_filtered t id s (b ∷ bs) e =
     let i = in-filter (λ (x : BookingRow). x.group == id) b t.bookings (subst (IsIn b) (sym e) (inl refl)) in
     let g = group_of_booking t b s i.0 in
     let same = g.2 ∙ is_group b.group id i.1 in
     let few = few_of_group t g.0 s (contains_from_in t.groups g.0 g.1) in
-    subst (λ l. length l ≤ 32) (ap (λ n. filter (λ (x : BookingRow). x.group == n) t.bookings) same ∙ e) few
+    subst (λ l. length l ≤ node_limit) (ap (λ n. filter (λ (x : BookingRow). x.group == n) t.bookings) same ∙ e) few
   where
     is_group : (m n : ℕ) → (m == n) ≡ true → m ≡ n
     is_group m n h = grind (arith, nat_tests)
 
 -- a group has at most as many standing bookings as a tree may have nodes
-pub few_booked : (t : Tables) (id : ℕ) → IsSound t → length (booked_for t id) ≤ 32
+pub few_booked : (t : Tables) (id : ℕ) → IsSound t → length (booked_for t id) ≤ node_limit
 few_booked t id s = few_filtered t id s (booked_for t id) refl

@@ -1,7 +1,8 @@
 -- A group is found by its number exactly where a row stands under its key.
-use Rattle.std.proofs.Common.{◌≡◌, ℕ, Bool, true, false, cond, ◌&&◌, ◌||◌, not, ◌==◌, List, [], ◌∷◌, map, Option, Some, None, inl, inr, if◌then◌else◌, refl, sym, ap, ◌∙◌, subst, arith}
+use Rattle.std.proofs.Common.{◌≡◌, ℕ, Bool, true, false, cond, ◌&&◌, ◌||◌, not, ◌==◌, List, [], ◌∷◌, ◌≤◌, map, Option, Some, None, inl, inr, if◌then◌else◌, refl, sym, ap, ◌∙◌, subst, arith}
 use Rattle.std.proofs.lemmas.Bool.Decides.{nat_tests}
-use Rattle.std.specs.Prelude.{find, nat_lt, is_some, option_map, Contains}
+use Rattle.std.proofs.lemmas.Option.{none-some}
+use Rattle.std.specs.Prelude.{find, nat_lt, nat_le, MatchOption, is_some, option_map, Contains}
 use Rattle.std.specs.List.{list_any}
 use Rattle.std.specs.Option.{option_or}
 use Rattle.std.specs.Ordering.{is_eq, ordering_then}
@@ -19,15 +20,19 @@ use Rattle.desk_base.specs.declared.answers.Outcome.TheVariants.{Done, Repeated,
 use Rattle.desk_base.specs.declared.answers.Reply.TheVariants.{Rows}
 use Rattle.desk_base.specs.declared.answers.Reply.TheVariants as reply
 use Rattle.desk_base.specs.declared.refusals.Refusal.{Refusal}
-use Rattle.desk_base.specs.declared.refusals.Refusal.TheVariants.{UnknownId}
+use Rattle.desk_base.specs.declared.refusals.Refusal.TheVariants.{UnknownId, BadField}
+use Rattle.desk_base.specs.declared.rules.Field.TheVariants.{Limit, Per}
 use Rattle.desk_base.specs.Keys.{id_key}
 use Rattle.desk_base.specs.Rows.{key_of}
 use Rattle.desk_base.specs.Groups.{group_of}
 use Rattle.desk_base.specs.Refusing.{is_key, is_there, unknown_among}
-use Rattle.desk_base.specs.Steps.{place_of, refused_limit, refused_cursor, refused_page}
+use Rattle.desk_base.specs.Limits.{page_limit}
+use Rattle.desk_base.specs.Fields.{is_within_range}
+use Rattle.desk_base.specs.Page.{IsAskable}
+use Rattle.desk_base.specs.Steps.{point_of, refused_limit, refused_per, refused_cursor, refused_page}
 use Rattle.desk_base.proofs.Members.{IsIn, contains_from_in}
-use Rattle.desk_base.proofs.Tests.{find_cases}
-use Rattle.desk_core.specs.Answering.{IsPageOrNone, IsAnswerOrNone}
+use Rattle.desk_base.proofs.Tests.{find_cases, and_left, and_right}
+use Rattle.desk_core.specs.Answering.{refused_known, IsPageOrNone, IsAnswerOrNone}
 
 -- whether an order is that of equal numbers
 eq_then : (a b : Bool) → is_eq (ordering_then (if a then Less else if b then Equal else Greater) Equal) ≡ not a && b
@@ -66,18 +71,24 @@ first_unknown false k = refl
 unknown_step : (t : Tables) (id : ℕ) → unknown_among t (id_key GroupTable id ∷ []) ≡ (if is_some (group_of t id) then None else Some (UnknownId (id_key GroupTable id)))
 unknown_step t id = first_unknown (is_there t (id_key GroupTable id)) (id_key GroupTable id) ∙ ap (λ b. if b then None else Some (UnknownId (id_key GroupTable id))) (group-there t id)
 
--- the refusal of a page of a group that is there, and of one that is not
-pub known_page : (t : Tables) (id : ℕ) (g : GroupRow) (after : Option Cursor) (latest : Bool) (limit : ℕ) → Some g ≡ group_of t id
-    → refused_page t id after latest limit ≡ option_or (refused_limit limit) (refused_cursor t.revision after latest)
-known_page t id g after latest limit e =
-    ap (λ u. option_or u (option_or (refused_limit limit) (refused_cursor t.revision after latest)))
-    (unknown_step t id ∙ ap (λ (o : Option GroupRow). if is_some o then None else Some (UnknownId (id_key GroupTable id))) (sym e))
+or-assoc : {A : Type 0} (a b c : Option A) → option_or a (option_or b c) ≡ option_or (option_or a b) c
+or-assoc None b c = refl
+or-assoc (Some x) b c = refl
 
-pub unknown_page : (t : Tables) (id : ℕ) (after : Option Cursor) (latest : Bool) (limit : ℕ) → None ≡ group_of t id
-    → refused_page t id after latest limit ≡ Some (UnknownId (id_key GroupTable id))
-unknown_page t id after latest limit e =
-    ap (λ u. option_or u (option_or (refused_limit limit) (refused_cursor t.revision after latest)))
-    (unknown_step t id ∙ ap (λ (o : Option GroupRow). if is_some o then None else Some (UnknownId (id_key GroupTable id))) (sym e))
+abbrev later : Tables → Options → Option Cursor → Bool → ℕ → Option Refusal
+later t o after latest limit = option_or (refused_limit limit) (option_or (refused_per o.per) (refused_cursor t.revision after latest))
+
+-- the refusal of a page of a group that is there, and of one that is not
+pub known_page : (t : Tables) (id : ℕ) (g : GroupRow) (o : Options) (after : Option Cursor) (latest : Bool) (limit : ℕ) → Some g ≡ group_of t id
+    → refused_page t id o after latest limit ≡ refused_known t o after latest limit
+known_page t id g o after latest limit e =
+    ap (λ u. option_or u (later t o after latest limit)) (unknown_step t id ∙ ap (λ (o : Option GroupRow). if is_some o then None else Some (UnknownId (id_key GroupTable id))) (sym e))
+    ∙ or-assoc (refused_limit limit) (refused_per o.per) (refused_cursor t.revision after latest)
+
+pub unknown_page : (t : Tables) (id : ℕ) (o : Options) (after : Option Cursor) (latest : Bool) (limit : ℕ) → None ≡ group_of t id
+    → refused_page t id o after latest limit ≡ Some (UnknownId (id_key GroupTable id))
+unknown_page t id o after latest limit e =
+    ap (λ u. option_or u (later t o after latest limit)) (unknown_step t id ∙ ap (λ (o : Option GroupRow). if is_some o then None else Some (UnknownId (id_key GroupTable id))) (sym e))
 
 -- a group that is found is there
 pub found_group : (t : Tables) (id : ℕ) (g : GroupRow) → Some g ≡ group_of t id → Contains t.groups g
@@ -89,18 +100,28 @@ found_group t id g e =
 
 -- what a page of a group comes to is the answer
 pub page_answers : (t : Tables) (id : ℕ) (g : GroupRow) (o : Options) (after : Option Cursor) (latest : Bool) (limit : ℕ) (out : Outcome) → Some g ≡ group_of t id
-    → option_or (refused_limit limit) (refused_cursor t.revision after latest) ≡ None → IsPageOrNone t g o (place_of after) limit out → IsAnswerOrNone t (RowsOf id o after latest limit) out
-page_answers t id g o after latest limit (Done (Rows page)) e r h = inl (known_page t id g after latest limit e ∙ r, (g, sym e, h))
+    → refused_known t o after latest limit ≡ None → IsPageOrNone t g o (point_of after) limit out → IsAnswerOrNone t (RowsOf id o after latest limit) out
+page_answers t id g o after latest limit (Done (Rows page)) e r h = inl (known_page t id g o after latest limit e ∙ r, (g, sym e, h))
 page_answers t id g o after latest limit (Done (reply.Change receipt)) e r h = absurd h
 page_answers t id g o after latest limit (Done reply.Revision) e r h = absurd h
 page_answers t id g o after latest limit (Repeated receipt) e r h = absurd h
 page_answers t id g o after latest limit (Refused why) e r h = absurd h
 page_answers t id g o after latest limit NoMemory e r h = inr refl
 
--- the limit of a page that is not refused is not
-pub limit_passes : (limit : ℕ) (o : Option Refusal) → option_or (refused_limit limit) o ≡ None → refused_limit limit ≡ None
-limit_passes limit o e = passes (refused_limit limit) e
-  where
-    passes : (r : Option Refusal) → option_or r o ≡ None → r ≡ None
-    passes None e = refl
-    passes (Some why) e = e
+-- a page that is not refused may be asked for
+first_passes : {A : Type 0} (o p : Option A) → option_or o p ≡ None → (o ≡ None) × (p ≡ None)
+first_passes None p e = (refl, e)
+first_passes (Some x) p e = absurd (none-some x (sym e))
+
+within_step : (n : ℕ) (b : Bool) (why : Refusal) → is_within_range 1 page_limit n ≡ b → cond b None (Some why) ≡ None → (1 ≤ n) × (n ≤ page_limit)
+within_step n true why e f = let low = and_left (nat_le 1 n) (nat_le n page_limit) e in let high = and_right (nat_le 1 n) (nat_le n page_limit) e in (grind (arith, nat_tests), grind (arith, nat_tests))
+within_step n false why e f = absurd (none-some why (sym f))
+
+per_within : (per : Option ℕ) → refused_per per ≡ None → MatchOption per (Unit {0}) (λ n. (1 ≤ n) × (n ≤ page_limit))
+per_within None e = tt
+per_within (Some n) e = within_step n (is_within_range 1 page_limit n) (BadField Per) refl e
+
+pub askable : (t : Tables) (o : Options) (after : Option Cursor) (latest : Bool) (limit : ℕ) → refused_known t o after latest limit ≡ None → IsAskable o limit
+askable t o after latest limit e =
+    let counts = first_passes (refused_limit limit) (refused_per o.per) (first_passes (option_or (refused_limit limit) (refused_per o.per)) (refused_cursor t.revision after latest) e).0 in
+    record { rows = within_step limit (is_within_range 1 page_limit limit) (BadField Limit) refl counts.0; of_start = per_within o.per counts.1 }

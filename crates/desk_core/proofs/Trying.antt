@@ -3,7 +3,7 @@ use Rattle.std.proofs.Common.{◌≡◌, ◌≤◌, Bool, true, List, [], ◌++�
 use Rattle.std.proofs.lemmas.Bool.{false≢true}
 use Rattle.std.proofs.lemmas.List.{append-nil, length-map}
 use Rattle.desk_base.specs.declared.tables.Tables.{Tables}
-use Rattle.desk_base.specs.declared.tables.Table.TheVariants.{Member as MemberTable}
+use Rattle.desk_base.specs.declared.tables.Table.TheVariants.{Member as MemberTable, Booking as BookingTable}
 use Rattle.desk_base.specs.declared.tables.AnyRow.{AnyRow}
 use Rattle.desk_base.specs.declared.tables.AnyRow.TheVariants.{Zone, Calendar, Work, Unit, Site, Resource, Member}
 use Rattle.desk_base.specs.declared.booking_rows.BookingRow.{BookingRow}
@@ -18,8 +18,11 @@ use Rattle.desk_base.specs.Load.{Fits, ask_of}
 use Rattle.desk_base.specs.Changes.{with_change}
 use Rattle.desk_base.specs.Acts.{after_act, change_of}
 use Rattle.desk_base.specs.Steps.{IsConflict}
+use Rattle.desk_base.specs.TableLimits.{limit_of}
+use Rattle.desk_base.specs.Efforts.{AreLight}
 use Rattle.desk_base.specs.Sound.{IsSound}
-use Rattle.desk_base.proofs.Sounds.{few_keys}
+use Rattle.desk_base.proofs.Sounds.{few_keys, well_formed}
+use Rattle.desk_base.proofs.Efforts.{light-append, some_light}
 use Rattle.desk_base.proofs.Shapes.{few_bookings}
 use Rattle.desk_core.specs.declared.entering.NotEntered.{NotEntered}
 use Rattle.desk_core.specs.declared.entering.NotEntered.TheVariants.{Refused, NoMemory}
@@ -48,7 +51,7 @@ members_stay t call (Site x) h = refl
 members_stay t call (Resource x) h = refl
 members_stay t call _ h = absurd h
 
-few_members : (t : Tables) → IsSound t → length t.members ≤ 10000
+few_members : (t : Tables) → IsSound t → length t.members ≤ limit_of MemberTable
 few_members t s =
     let h = few_keys t MemberTable s in
     let a = length-map (map Member t.members) key_of in
@@ -60,8 +63,9 @@ few_members t s =
 can_be_tried : (t : Tables) (call : Call) (a : Act) → IsSound t → IsServed a → act_bears_on_room a ≡ true → CanBeTried t (change_of t call a)
 can_be_tried t call (act.Put row) s h e = record {
   no_removes = refl;
-  few = subst (λ l. length l ≤ 200000) (sym (bookings_stay t call row h)) (few_bookings t s);
-  few_members = subst (λ l. length l ≤ 10000) (sym (members_stay t call row h)) (few_members t s);
+  few = subst (λ l. length l ≤ limit_of BookingTable) (sym (bookings_stay t call row h)) (few_bookings t s);
+  few_members = subst (λ l. length l ≤ limit_of MemberTable) (sym (members_stay t call row h)) (few_members t s);
+  light = subst (λ l. AreLight (map ask_of l ++ [])) (sym (bookings_stay t call row h)) (light-append (map ask_of t.bookings) [] (some_light t t.bookings (well_formed t s) (λ b i. i)) tt);
 }
 can_be_tried t call _ s h e = absurd (false≢true e)
 

@@ -1,21 +1,27 @@
 -- Answers to questions, or want of memory.
-use Rattle.std.specs.Prelude.{◌≡◌, ◌⊎◌, ℕ, Option, ⊤}
+use Rattle.std.specs.Prelude.{◌≡◌, ◌⊎◌, ℕ, Bool, Option, ⊤}
+use Rattle.std.specs.Option.{option_or}
 use Rattle.desk_base.specs.declared.tables.Tables.{Tables}
 use Rattle.desk_base.specs.declared.group_rows.GroupRow.{GroupRow}
 use Rattle.desk_base.specs.declared.searches.Options.{Options}
-use Rattle.desk_base.specs.declared.searches.Position.{Position}
+use Rattle.desk_base.specs.declared.searches.Cursor.{Cursor}
+use Rattle.desk_base.specs.declared.refusals.Refusal.{Refusal}
 use Rattle.desk_base.specs.declared.answers.Query.{Query}
 use Rattle.desk_base.specs.declared.answers.Outcome.{Outcome}
 use Rattle.desk_base.specs.declared.answers.Outcome.TheVariants.{Done, NoMemory}
 use Rattle.desk_base.specs.declared.answers.Reply.TheVariants.{Rows}
-use Rattle.desk_base.specs.Page.{IsPage}
-use Rattle.desk_base.specs.Steps.{IsAnswer}
+use Rattle.desk_base.specs.Page.{ResumePoint, IsPage}
+use Rattle.desk_base.specs.Steps.{refused_limit, refused_per, refused_cursor, IsAnswer}
+
+-- why a page of a group that is there is refused
+abbrev pub refused_known : Tables → Options → Option Cursor → Bool → ℕ → Option Refusal
+refused_known t options after latest limit = option_or (option_or (refused_limit limit) (refused_per options.per)) (refused_cursor t.revision after latest)
 
 -- the page of the search, or want of memory
-abbrev pub IsPageOrNone : Tables → GroupRow → Options → Option Position → ℕ → Outcome → Type 0
-IsPageOrNone t g options after limit (Done (Rows page)) = IsPage t g options after limit page
-IsPageOrNone t g options after limit NoMemory = ⊤
-IsPageOrNone t g options after limit _ = ⊥
+abbrev pub IsPageOrNone : Tables → GroupRow → Options → ResumePoint → ℕ → Outcome → Type 0
+IsPageOrNone t g options point limit (Done (Rows page)) = IsPage t g options point limit page
+IsPageOrNone t g options point limit NoMemory = ⊤
+IsPageOrNone t g options point limit _ = ⊥
 
 -- the answer to the question, or want of memory
 abbrev pub IsAnswerOrNone : Tables → Query → Outcome → Type 0

@@ -3,11 +3,14 @@ ghost use Rattle.std.specs.Prelude.{◌≡◌, None, Contains, option_copied};
 ghost use Rattle.std.specs.Option.{option_or};
 ghost use Rattle.desk_base.specs.Keys.{id_key};
 ghost use Rattle.desk_base.specs.Sound.{IsSound};
-ghost use Rattle.desk_base.specs.Steps.{place_of, refused_limit, refused_cursor};
+ghost use Rattle.desk_base.specs.Fields.{is_within_range};
+ghost use Rattle.desk_base.specs.Limits.{page_limit};
+ghost use Rattle.desk_base.specs.Page.{IsAskable};
+ghost use Rattle.desk_base.specs.Steps.{point_of, refused_limit, refused_per, refused_cursor};
 ghost use Rattle.desk_base.specs.declared.answers.Query.TheVariants.{Rows as RowsOf};
 ghost use Rattle.desk_base.specs.declared.refusals.Refusal.TheVariants.{UnknownId};
 ghost use Rattle.desk_base.specs.declared.tables.Table.TheVariants.{Group};
-ghost use Rattle.desk_core.specs.Answering.{IsPageOrNone, IsAnswerOrNone};
+ghost use Rattle.desk_core.specs.Answering.{refused_known, IsPageOrNone, IsAnswerOrNone};
 
 use desk_base::{
     Cursor, Field, GroupId, GroupRow, Key, Options, Outcome, Position, Query, Refusal, Reply,
@@ -16,11 +19,12 @@ use desk_base::{
 use desk_search::page;
 use std::alloc::Global;
 
-/// Rows of a page, at most.
+/// Rows of a page, and of a start, at most.
 const MOST_ROWS: u32 = 500;
 
-fn place_of(after: &Option<Cursor>) -> Option<&Position>
-    ensures { option_copied result ≡ place_of after.now }
+/// The position that a cursor shows.
+fn position_of(after: &Option<Cursor>) -> Option<&Position>
+    ensures { option_copied result ≡ (point_of after.now).after }
 {
     match after {
         Some(cursor) => Some(&cursor.position),
@@ -28,13 +32,44 @@ fn place_of(after: &Option<Cursor>) -> Option<&Position>
     }
 }
 
+/// How many rows of its position's start a cursor shows as shown.
+fn shown_of(after: &Option<Cursor>) -> u16
+    ensures { result ≡ (point_of after.now).shown }
+{
+    match after {
+        Some(cursor) => cursor.shown.unwrap_or(0),
+        None => 0,
+    }
+}
+
+fn is_askable(count: u32) -> bool
+    ensures { result ≡ is_within_range 1 page_limit count }
+{
+    1 <= count && count <= MOST_ROWS
+}
+
 fn refused_limit(limit: u32) -> Option<Refusal>
     ensures { result ≡ refused_limit limit }
 {
-    if 1 <= limit && limit <= MOST_ROWS {
+    if is_askable(limit) {
         None
     } else {
         Some(Refusal::BadField(Field::Limit))
+    }
+}
+
+fn refused_per(per: Option<u32>) -> Option<Refusal>
+    ensures { result ≡ refused_per per }
+{
+    match per {
+        None => None,
+        Some(per) => {
+            if is_askable(per) {
+                None
+            } else {
+                Some(Refusal::BadField(Field::Per))
+            }
+        }
     }
 }
 
@@ -53,16 +88,27 @@ fn refused_cursor(now: u64, after: &Option<Cursor>, latest: bool) -> Option<Refu
     }
 }
 
+/// Why a page with such a limit and so many rows of each start is refused.
+fn refused_counts(limit: u32, per: Option<u32>) -> Option<Refusal>
+    ensures { result ≡ option_or (refused_limit limit) (refused_per per) }
+{
+    match refused_limit(limit) {
+        Some(why) => Some(why),
+        None => refused_per(per),
+    }
+}
+
 /// Why a page of a group that is there is refused.
 fn refused_known(
     tables: &Tables,
+    options: &Options,
     after: &Option<Cursor>,
     latest: bool,
     limit: u32,
 ) -> Option<Refusal>
-    ensures { result ≡ option_or (refused_limit limit) (refused_cursor tables.now.revision after.now latest) }
+    ensures { result ≡ refused_known tables.now options.now after.now latest limit }
 {
-    match refused_limit(limit) {
+    match refused_counts(limit, options.per) {
         Some(why) => Some(why),
         None => refused_cursor(tables.revision, after, latest),
     }
@@ -90,10 +136,12 @@ fn page_of(
 ) -> Outcome
     requires sound { IsSound tables.now }
     requires there { Contains tables.now.groups group.now }
-    requires limit { refused_limit limit ≡ None }
-    ensures { IsPageOrNone tables.now group.now options.now (place_of after.now) limit result }
+    requires askable { IsAskable options.now limit }
+    ensures { IsPageOrNone tables.now group.now options.now (point_of after.now) limit result }
 {
-    match page(alloc, tables, group, options, place_of(after), limit as u16) {
+    let position = position_of(after);
+    let shown = shown_of(after);
+    match page(alloc, tables, group, options, position, shown, limit as u16) {
         Ok(page) => Outcome::Done(Reply::Rows(page)),
         Err(_) => Outcome::NoMemory,
     }
@@ -113,7 +161,7 @@ fn rows(
     ensures { IsAnswerOrNone tables.now (RowsOf group options.now after.now latest limit) result }
 {
     match tables.group(group) {
-        Some(row) => match refused_known(tables, after, latest, limit) {
+        Some(row) => match refused_known(tables, options, after, latest, limit) {
             Some(why) => Outcome::Refused(why),
             None => page_of(alloc, tables, row, options, after, limit),
         },

@@ -22,7 +22,7 @@ use desk_base::{Act, AnyRow, Call, Entry, Field, GroupId, Refusal, ResourceId, T
 const JOURNAL_LIMIT: usize = 100_000;
 
 /// Leaves of a tree, at most.
-const LEAF_LIMIT: usize = 12;
+const LEAF_LIMIT: usize = 24;
 
 /// The greatest revision.
 const REVISION_LIMIT: u64 = 1_000_000_000_000_000;

@@ -3,7 +3,7 @@ ghost use Rattle.std.specs.Prelude.{◌≡◌, ◌+◌, ◌≤◌, ◌∷◌, []
 ghost use Rattle.desk_base.specs.Acts.{booked_receipt, bookings_from, made_by};
 ghost use Rattle.desk_base.specs.Groups.{effort_minutes, group_of};
 ghost use Rattle.desk_base.specs.Keys.{id_key};
-ghost use Rattle.desk_base.specs.Limits.{serial_limit};
+ghost use Rattle.desk_base.specs.Limits.{serial_limit, node_limit};
 ghost use Rattle.desk_base.specs.Listing.{IsFeasible};
 ghost use Rattle.desk_base.specs.Picks.{choices_of};
 ghost use Rattle.desk_base.specs.Sound.{IsSound};
@@ -64,7 +64,7 @@ fn keys_of(alloc: Global, bookings: &[BookingRow]) -> Result<Vec<Key>, AllocErro
 fn booked_receipt(first: u32, made: &[BookingRow]) -> Receipt
     requires low { 1 ≤ first }
     requires high { first ≤ serial_limit }
-    requires few { length made.now ≤ 32 }
+    requires few { length made.now ≤ node_limit }
     ensures { result ≡ booked_receipt first made.now }
 {
     Receipt::Booked {
@@ -78,7 +78,7 @@ fn booked_receipt(first: u32, made: &[BookingRow]) -> Receipt
 fn effect_of_made(alloc: Global, tables: &Tables, made: &[BookingRow]) -> Result<Effect, NoMemory>
     requires numbers { tables.now.last_booking + length made.now ≤ serial_limit }
     requires some { 1 ≤ length made.now }
-    requires few { length made.now ≤ 32 }
+    requires few { length made.now ≤ node_limit }
     ensures { IfOk result (λ e. e ≡ effect_of_made tables.now made.now) }
 {
     Ok(Effect {
@@ -129,7 +129,7 @@ fn effect_of_book_group(
 }
 
 fn cancelled_receipt(gone: &[BookingRow]) -> Receipt
-    requires { length gone.now ≤ 32 }
+    requires { length gone.now ≤ node_limit }
     ensures { result ≡ Cancelled (length gone.now) (effort_minutes gone.now) }
 {
     Receipt::Cancelled {

@@ -1,5 +1,6 @@
 //! The standing bookings of a group, and what bookings come to.
 ghost use Rattle.std.specs.Prelude.{◌≡◌, ◌-◌, ◌*◌, ◌≤◌, ◌^◌, length, IfOk};
+ghost use Rattle.desk_base.specs.Limits.{node_limit};
 ghost use Rattle.desk_base.specs.Groups.{booked_for, effort_minutes, is_booked};
 
 use desk_base::{BookingRow, GroupId, Tables};
@@ -44,7 +45,7 @@ fn effort_minutes_of(booking: &BookingRow) -> u64
 
 /// Effort times minutes, summed over the bookings.
 pub(crate) fn effort_minutes(bookings: &[BookingRow]) -> u64
-    requires { length bookings.now ≤ 32 }
+    requires { length bookings.now ≤ node_limit }
     ensures { result ≡ effort_minutes bookings.now }
 {
     let mut total = 0;

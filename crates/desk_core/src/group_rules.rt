@@ -16,8 +16,10 @@ const LEAST_STEP: u64 = 5;
 
 const GREATEST_STEP: u64 = 1440;
 
-/// Minutes and effort of a leaf, at most.
+/// Minutes of a leaf, minutes from its group's start to its own, and its effort, at most.
 const DURATION_LIMIT: u64 = 20_160;
+
+const OFFSET_LIMIT: u32 = 20_160;
 
 const EFFORT_LIMIT: u64 = 1000;
 
@@ -28,6 +30,8 @@ fn broken_leaf(leaf: &Leaf) -> Option<Field>
 {
     if !is_within_range(1, DURATION_LIMIT, u64::from(leaf.duration)) {
         Some(Field::Duration)
+    } else if OFFSET_LIMIT < leaf.offset {
+        Some(Field::Offset)
     } else if !is_within_range(1, EFFORT_LIMIT, u64::from(leaf.effort)) {
         Some(Field::Effort)
     } else {

@@ -4,11 +4,12 @@ ghost use Rattle.std.specs.List.{list_all};
 ghost use Rattle.desk_base.specs.Acts.{bookings_from};
 ghost use Rattle.desk_base.specs.Limits.{end_of_minutes, serial_limit};
 ghost use Rattle.desk_base.specs.Picks.{choices_of};
+ghost use Rattle.desk_base.specs.Time.{leaf_time};
 
 use desk_base::{BookingId, BookingRow, GroupId, GroupRow, Leaf, LeafNo, Minute, ResourceId};
 use std::alloc::{AllocError, Global};
 
-/// The booking of this number, from the start on for as long as the leaf lasts.
+/// The booking of this number over the leaf's time, where its group starts at this minute.
 fn booking(
     id: u32,
     group: GroupId,
@@ -19,16 +20,17 @@ fn booking(
 ) -> BookingRow
     requires low { 1 ≤ id }
     requires high { id ≤ serial_limit }
-    requires end { start + leaf.now.duration ≤ end_of_minutes }
-    ensures { result ≡ record { id = id; group = group; leaf = number; resource = resource; from = start; to = start + leaf.now.duration; effort = leaf.now.effort } }
+    requires end { (leaf_time leaf.now start).to ≤ end_of_minutes }
+    ensures { result ≡ record { id = id; group = group; leaf = number; resource = resource; from = (leaf_time leaf.now start).from; to = (leaf_time leaf.now start).to; effort = leaf.now.effort } }
 {
+    let time = leaf.time(start);
     BookingRow {
         id: BookingId::of(id).unwrap(),
         group,
         leaf: number,
         resource,
-        from: start,
-        to: Minute::of(start.get() + leaf.duration).unwrap(),
+        from: time.from,
+        to: time.to,
         effort: leaf.effort,
     }
 }
@@ -46,7 +48,7 @@ fn push_bookings(
     requires low { 1 ≤ id }
     requires high { id + length (choices_of number leaves.now picks.now) ≤ serial_limit + 1 }
     requires few { number + length leaves.now ≤ 255 }
-    requires end { list_all (λ c. nat_le (start + c.leaf.duration) end_of_minutes) (choices_of number leaves.now picks.now) ≡ true }
+    requires end { list_all (λ c. nat_le (leaf_time c.leaf start).to end_of_minutes) (choices_of number leaves.now picks.now) ≡ true }
     ensures { OnOk result (made.new.items ≡ made.old.items ++ bookings_from id group.now start (choices_of number leaves.now picks.now)) }
 {
     match leaves {
@@ -73,7 +75,7 @@ pub(crate) fn new_bookings(
     requires low { 1 ≤ first }
     requires high { first + length (choices_of 0 group.now.leaves picks.now) ≤ serial_limit + 1 }
     requires few { length group.now.leaves ≤ 255 }
-    requires end { list_all (λ c. nat_le (start + c.leaf.duration) end_of_minutes) (choices_of 0 group.now.leaves picks.now) ≡ true }
+    requires end { list_all (λ c. nat_le (leaf_time c.leaf start).to end_of_minutes) (choices_of 0 group.now.leaves picks.now) ≡ true }
     ensures { IfOk result (λ v. v.items ≡ bookings_from first group.now start (choices_of 0 group.now.leaves picks.now)) }
 {
     let mut made = Vec::new(alloc);

@@ -6,6 +6,7 @@ use Rattle.std.specs.Prelude.{Contains, ⊤}
 use Rattle.std.specs.Bool.{Decides}
 use Rattle.std.specs.List.{list_all}
 use Rattle.std.specs.Option.{option_map_or, option_or}
+use Rattle.desk_base.specs.Time.{leaf_time}
 use Rattle.desk_base.specs.declared.group_rows.GroupRow.{GroupRow}
 use Rattle.desk_base.specs.declared.group_rows.Leaf.{Leaf}
 use Rattle.desk_base.specs.declared.tables.Tables.{Tables}

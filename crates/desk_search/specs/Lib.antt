@@ -9,3 +9,4 @@ pub mod Places
 pub mod Clashes
 pub mod Events
 pub mod Extracts
+pub mod Intervals

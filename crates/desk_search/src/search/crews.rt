@@ -7,6 +7,7 @@ ghost use Rattle.desk_base.specs.Time.{leaf_time};
 ghost use Rattle.desk_base.specs.Load.{sort_of_kind, is_crew, members};
 
 use crate::search::choices::chosen;
+use crate::search::eligible::begin_of;
 use crate::search::members::{is_crew_kind, is_member_at};
 use desk_base::{Leaf, ResourceId, Tables};
 use std::alloc::{AllocError, Global};
@@ -41,7 +42,7 @@ fn is_member_throughout(
 ) -> Result<bool, AllocError>
     ensures { IfOk result (λ b. b ≡ is_member_throughout tables.now group id (leaf_time leaf.now start)) }
 {
-    let begin = u64::from(start) + u64::from(leaf.offset);
+    let begin = begin_of(leaf, start);
     let from = later(FIRST, begin);
     let to = earlier(begin + u64::from(leaf.duration), END);
     for minute in from..to {

@@ -167,10 +167,18 @@ fn is_in_own_window(leaf: &Leaf, from: u64, to: u64) -> bool
     }
 }
 
+/// When the leaf begins where its group starts at this minute.
+pub fn begin_of(leaf: &Leaf, start: u32) -> u64
+    ensures value { result ≡ start + leaf.now.offset }
+    ensures small { result < 2 ^ 33 }
+{
+    u64::from(start) + u64::from(leaf.offset)
+}
+
 fn is_in_windows(group: &GroupRow, leaf: &Leaf, start: u32) -> bool
     ensures { result ≡ is_in_windows group.now leaf.now start }
 {
-    let from = u64::from(start) + u64::from(leaf.offset);
+    let from = begin_of(leaf, start);
     let to = from + u64::from(leaf.duration);
     u64::from(group.from.get()) <= from
         && to <= u64::from(group.to.get())

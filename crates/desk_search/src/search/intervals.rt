@@ -1,11 +1,12 @@
 //! Results per interval: which rows of each start a search shows, and how many it has shown.
-ghost use Rattle.std.specs.Prelude.{◌≡◌, ◌≤◌, ◌+◌, ◌-◌, ◌==◌, ◌&&◌, nat_lt, min, length, filter, Some, None, IfOk, option_copied, if◌then◌else◌};
+ghost use Rattle.std.specs.Prelude.{◌≡◌, ◌≤◌, ◌+◌, ◌==◌, ◌&&◌, ◌++◌, ◌∷◌, [], nat_lt, min, length, filter, Some, None, IfOk, OnOk, option_copied};
 ghost use Rattle.std.specs.Ordering.{is_lt};
 ghost use Rattle.desk_base.specs.Limits.{page_limit};
 ghost use Rattle.desk_base.specs.Order.{found_cmp};
 ghost use Rattle.desk_base.specs.Listing.{rows_before, shown_rows};
 ghost use Rattle.desk_base.specs.Page.{shown_before, due_of, rows_at, shown_after};
-ghost use Rattle.desk_base.specs.Positions.{found_of, rows_among};
+ghost use Rattle.desk_base.specs.Positions.{rows_among};
+ghost use Rattle.desk_search.specs.Intervals.{is_due};
 
 use crate::search::listing::{found_of, rows_among};
 use desk_base::{Duplicate, Found, Founds, Items, NoMemory, Position};
@@ -84,11 +85,29 @@ fn is_due(
     shown: u16,
     position: &Position,
 ) -> Result<bool, NoMemory>
-    ensures { IfOk result (λ b. b ≡ nat_lt (rows_before rows.now (found_of position.now)) (per - shown_before (option_copied after.entry) shown position.now.start)) }
+    ensures { IfOk result (λ b. b ≡ is_due rows.now per (option_copied after.entry) shown position.now) }
 {
     let row = found_of(alloc, position)?;
     let left = per.saturating_sub(shown_before(after, shown, position.start.get()));
     Ok(rows_before(rows, &row) < left as usize)
+}
+
+/// Adds a copy of the position where it is due.
+fn push_if_due(
+    alloc: Global,
+    rows: &[Found],
+    per: u32,
+    after: Option<&Position>,
+    shown: u16,
+    position: &Position,
+    due: &mut Items<Position>,
+) -> Result<(), NoMemory>
+    ensures { OnOk result (due.new ≡ due.old ++ filter (is_due rows.now per (option_copied after.entry) shown) (position.now ∷ [])) }
+{
+    if is_due(alloc, rows, per, after, shown, position)? {
+        due.push(position.copy(alloc)?)?;
+    }
+    Ok(())
 }
 
 /// Copies of the positions that are due, where each start shows its first rows.
@@ -105,9 +124,7 @@ fn due_of_each(
     let rows = rows_among(alloc, leaves, positions)?;
     let mut due = Items::new(alloc);
     for position in positions {
-        if is_due(alloc, rows.as_slice(), per, after, shown, position)? {
-            due.push(position.copy(alloc)?)?;
-        }
+        push_if_due(alloc, rows.as_slice(), per, after, shown, position, &mut due)?;
     }
     Ok(due)
 }
@@ -145,7 +162,6 @@ fn capped(count: usize) -> u16
 
 /// How many rows of the start of the last position that was passed were shown with these.
 fn shown_with(rows: &[Found], after: Option<&Position>, shown: u16, last: &Position) -> u16
-    requires { length rows.now ≤ page_limit }
     ensures { result ≡ min (rows_at rows.now last.now.start + shown_before (option_copied after.entry) shown last.now.start) page_limit }
 {
     let start = last.start.get();
@@ -160,7 +176,6 @@ pub fn shown_after(
     rows: &[Found],
     last: Option<&Position>,
 ) -> Option<u16>
-    requires { length rows.now ≤ page_limit }
     ensures { result ≡ shown_after per (record { after = option_copied after.entry; shown = shown }) rows.now (option_copied last.entry) }
 {
     match per {

@@ -1,9 +1,10 @@
 //! Pages of a search, cut from the list of its live positions.
-ghost use Rattle.std.specs.Prelude.{◌≡◌, Contains, ◌≤◌, length, take, filter, map, IfOk, option_copied};
+ghost use Rattle.std.specs.Prelude.{◌≡◌, Contains, ◌≤◌, length, take, filter, map, IfOk, None, option_copied};
 ghost use Rattle.std.specs.List.{last_or};
 ghost use Rattle.desk_base.specs.Limits.{page_limit, passed_limit};
 ghost use Rattle.desk_base.specs.Page.{passed_of, page_of, IsPage, IsAskable};
 ghost use Rattle.desk_base.specs.Positions.{precedes, positions_after};
+ghost use Rattle.desk_search.specs.Intervals.{page_passed, page_over};
 ghost use Rattle.desk_base.specs.Sound.{AreWellFormed};
 ghost use Rattle.desk_base.specs.Load.{Fits, ask_of};
 
@@ -101,6 +102,57 @@ fn last_or(
     }
 }
 
+/// The last of the positions.
+fn last_of(positions: &[Position]) -> Option<&Position>
+    ensures { option_copied result ≡ last_or None positions.now }
+{
+    match positions {
+        [] => None,
+        [.., last] => Some(last),
+    }
+}
+
+/// The page that has passed these positions.
+fn page_passed(
+    alloc: Global,
+    leaves: usize,
+    per: Option<u32>,
+    after: Option<&Position>,
+    shown: u16,
+    passed: &[Position],
+    end: bool,
+) -> Result<Page, NoMemory>
+    ensures { IfOk result (λ p. p ≡ page_passed leaves per (record { after = option_copied after.entry; shown = shown }) passed.now end) }
+{
+    let rows = rows_among(alloc, leaves, passed)?;
+    let next = last_or(alloc, after, passed)?;
+    let shown = shown_after(per, after, shown, rows.as_slice(), last_of(passed));
+    Ok(Page {
+        rows,
+        next,
+        shown,
+        end,
+    })
+}
+
+/// The page over the positions that are due: it passes the first of them.
+fn page_over(
+    alloc: Global,
+    leaves: usize,
+    per: Option<u32>,
+    after: Option<&Position>,
+    shown: u16,
+    limit: u16,
+    due: &[Position],
+) -> Result<Page, NoMemory>
+    ensures { IfOk result (λ p. p ≡ page_over leaves per (record { after = option_copied after.entry; shown = shown }) limit due.now) }
+{
+    let count = passed_len(leaves, u32::from(limit), PASSED_LIMIT, due);
+    let passed = &due[..count];
+    let end = passed.len() == due.len();
+    page_passed(alloc, leaves, per, after, shown, passed, end)
+}
+
 /// The page over these positions: it passes the first of those that are due.
 fn page_of(
     alloc: Global,
@@ -111,20 +163,10 @@ fn page_of(
     limit: u16,
     positions: Items<Position>,
 ) -> Result<Page, NoMemory>
-    requires { limit ≤ page_limit }
     ensures { IfOk result (λ p. p ≡ page_of leaves per (record { after = option_copied after.entry; shown = shown }) limit positions) }
 {
     let due = due_of(alloc, leaves, per, after, shown, positions)?;
-    let count = passed_len(leaves, u32::from(limit), PASSED_LIMIT, due.as_slice());
-    let here = &due.as_slice()[..count];
-    let rows = rows_among(alloc, leaves, here)?;
-    let shown = shown_after(per, after, shown, rows.as_slice(), here.last());
-    Ok(Page {
-        rows,
-        next: last_or(alloc, after, here)?,
-        shown,
-        end: here.len() == due.len(),
-    })
+    page_over(alloc, leaves, per, after, shown, limit, due.as_slice())
 }
 
 /// A page of a search, for every group of well-formed tables whose standing bookings fit: at most `limit` rows (1 to 500) of

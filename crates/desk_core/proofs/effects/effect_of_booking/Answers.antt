@@ -1,5 +1,6 @@
 use Rattle.std.proofs.Common.{◌+◌, length, ap, ◌∙◌, arith}
 use Rattle.desk_base.specs.Picks.{choices_of}
+use Rattle.desk_base.proofs.Sounds.{well_formed}
 use Rattle.desk_base.proofs.Shapes.{few_leaves}
 use Rattle.desk_base.proofs.NewBookings.{length-bookings_from}
 use Rattle.desk_search.proofs.Asks.{ends_fit}
@@ -7,10 +8,10 @@ use Rattle.desk_core.proofs.Chosen.{choices-le-leaves, some_chosen}
 use Rattle.desk_core.proofs.effects.effect_of_booking.Goals as goal
 
 pub new_bookings-requires-clause-few : goal.new_bookings-requires-clause-few
-new_bookings-requires-clause-few c = let few = few_leaves c.args.tables.now c.args.group.now c.requires.sound c.requires.there in omega arith
+new_bookings-requires-clause-few c = let few = few_leaves c.args.tables.now c.args.group.now (well_formed c.args.tables.now c.requires.sound) c.requires.there in omega arith
 
 pub new_bookings-requires-clause-end : goal.new_bookings-requires-clause-end
-new_bookings-requires-clause-end c = ends_fit c.args.tables.now c.args.group.now c.args.start (choices_of 0 c.args.group.now.leaves c.args.picks.now) (omega arith) c.requires.feasible.consistent.serve
+new_bookings-requires-clause-end c = ends_fit c.args.tables.now c.args.group.now c.args.start (choices_of 0 c.args.group.now.leaves c.args.picks.now) (omega arith) c.requires.feasible.serve
 
 pub effect_of_made-requires-clause-numbers : goal.effect_of_made-requires-clause-numbers
 effect_of_made-requires-clause-numbers c =
@@ -30,5 +31,5 @@ effect_of_made-requires-clause-few c =
     let made = ap length (c.as_slice.ensures.value ∙ c.in_ok-made.ensures) in
     let each = length-bookings_from c.args.group.now c.args.start (c.args.tables.now.last_booking + 1) (choices_of 0 c.args.group.now.leaves c.args.picks.now) in
     let most = choices-le-leaves 0 c.args.group.now.leaves c.args.picks.now in
-    let few = few_leaves c.args.tables.now c.args.group.now c.requires.sound c.requires.there in
+    let few = few_leaves c.args.tables.now c.args.group.now (well_formed c.args.tables.now c.requires.sound) c.requires.there in
     omega (arith, made, each, most, few)

@@ -1,5 +1,5 @@
-use Rattle.std.proofs.Common.{length, sym, ap, subst, ◌∙◌}
-use Rattle.desk_base.specs.Listing.{IsListing}
+use Rattle.std.proofs.Common.{length, ap, ◌∙◌}
+use Rattle.desk_base.specs.Listing.{shown_rows}
 use Rattle.desk_base.specs.Positions.{rows_among}
 use Rattle.desk_base.proofs.Pages.{full_rows}
 use Rattle.desk_base.proofs.Shapes.{sound_group}
@@ -7,6 +7,8 @@ use Rattle.desk_search.proofs.search.listing.rows.Goals as goal
 
 pub returns : goal.returns
 returns c =
-    let all = c.in_ok-rows.ensures ∙ ap (λ n. rows_among n c.as_slice.result.now) c.len.ensures ∙ ap (rows_among (length c.args.group.now.leaves)) c.as_slice.ensures in
-    subst (IsListing c.args.tables.now c.args.group.now c.args.options.now) (sym all)
-    (full_rows c.args.tables.now c.args.group.now c.args.options.now c.in_ok-live.live (sound_group c.args.tables.now c.args.group.now c.requires.formed c.requires.there) c.in_ok-live.ensures)
+    let all = c.in_ok-rows.ensures ∙ ap (λ n. rows_among n c.as_slice.result.now) c.len.ensures ∙ ap (rows_among (length c.args.group.now.leaves)) c.as_slice.ensures in (
+      rows_among (length c.args.group.now.leaves) c.in_ok-live.live,
+      full_rows c.args.tables.now c.args.group.now c.args.options.now c.in_ok-live.live (sound_group c.args.tables.now c.args.group.now c.requires.formed c.requires.there) c.in_ok-live.ensures,
+      c.in_ok-shown.ensures ∙ ap (shown_rows c.args.options.now.per) all,
+    )

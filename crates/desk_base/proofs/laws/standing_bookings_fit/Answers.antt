@@ -1,0 +1,5 @@
+use Rattle.desk_base.proofs.Sounds.{bookings_fit}
+use Rattle.desk_base.proofs.laws.standing_bookings_fit.Goals as goal
+
+pub returns : goal.returns
+returns c = bookings_fit
