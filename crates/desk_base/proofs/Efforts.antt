@@ -4,7 +4,7 @@ use Rattle.std.proofs.lemmas.List.{length-map}
 use Rattle.std.proofs.lemmas.List.Sums.{length-filter, count_by-le-length, sum_by-cons}
 use Rattle.std.proofs.lemmas.Bool.Decides.{nat_tests}
 use Rattle.std.specs.Prelude.{Contains, sum_by}
-use Rattle.std.specs.List.{AllByRecursion}
+use Rattle.std.specs.List.{list_all}
 use Rattle.desk_base.specs.Types.{Tables, BookingRow, GroupRow, Leaf, Ask, MemberRow}
 use Rattle.desk_base.specs.declared.tables.AnyRow.TheVariants.{Booking}
 use Rattle.desk_base.specs.Limits.{effort_limit}
@@ -13,12 +13,12 @@ use Rattle.desk_base.specs.Time.{covers}
 use Rattle.desk_base.specs.Rows.{key_of}
 use Rattle.desk_base.specs.Fields.{is_within_range, booking_rules}
 use Rattle.desk_base.specs.Load.{LoadSort, plain, crew, pool, unknown, sort_of, members, loads, effort_at, own_load, plain_load, load, load_by, weight, ask_of}
-use Rattle.desk_base.specs.Efforts.{AreLight}
+use Rattle.desk_base.specs.Efforts.{is_light, AreLight, AreLightBookings}
 use Rattle.desk_base.specs.Picks.{Choice, choices_of}
 use Rattle.desk_base.specs.Listing.{ask_for, asks_for}
 use Rattle.desk_base.specs.Sound.{AreWellFormed, keeps_fields}
-use Rattle.desk_base.proofs.Members.{IsIn, all_at, all_from, in-map, in_mapped, in-filter, in_from_contains, contains_from_in}
-use Rattle.desk_base.proofs.Tests.{and_left, and_right}
+use Rattle.desk_base.proofs.Members.{IsIn, in-map, in_mapped, in-filter, in_from_contains, contains_from_in}
+use Rattle.desk_base.proofs.Tests.{and_left, and_right, and_both, list_all_from}
 use Rattle.desk_base.proofs.Shapes.{rules_kept, none_from}
 use Rattle.desk_base.proofs.NewBookings.{choice_from, leaf_light}
 
@@ -71,47 +71,42 @@ load_light : (t : Tables) (a : Ask) (r m n : ℕ) → a.effort ≤ n → load t 
 unfolding load
 load_light t a r m n h = by_sort (sort_of t r) t a r m n h
 
+is_within : (m n : ℕ) → nat_le m n ≡ true → m ≤ n
+is_within m n h = grind (arith, nat_tests)
+
+within_is : (m n : ℕ) → m ≤ n → nat_le m n ≡ true
+within_is m n h = grind (arith, nat_tests)
+
 -- light bookings weigh no more than their number, the memberships and one, and the greatest effort together allow
 pub weight_light : (t : Tables) (asks : List Ask) (r m : ℕ) → AreLight asks → weight t asks r m ≤ length asks * ((length t.members + 1) * effort_limit)
 weight_light t [] r m h = omega arith
 weight_light t (a ∷ asks) r m h =
-    let p = load_light t a r m effort_limit h.0 in
-    let q = weight_light t asks r m h.1 in
+    let p = load_light t a r m effort_limit (is_within a.effort effort_limit (and_left (is_light a) (list_all is_light asks) h)) in
+    let q = weight_light t asks r m (and_right (is_light a) (list_all is_light asks) h) in
     let e = sum_by-cons (load t r m) a asks in
     let d : suc (length asks) * ((length t.members + 1) * effort_limit) ≡ (length t.members + 1) * effort_limit + length asks * ((length t.members + 1) * effort_limit) = grind (arith) in
     omega (arith, p, q, e, d)
 
 -- ---- which bookings are light
 
-pub light-append : (xs ys : List Ask) → AreLight xs → AreLight ys → AreLight (xs ++ ys)
-light-append [] ys h k = k
-light-append (x ∷ xs) ys h k = (h.0, light-append xs ys h.1 k)
+-- bookings ask for what they are
+pub light_uses : (bs : List BookingRow) → AreLightBookings bs → AreLight (map ask_of bs)
+light_uses [] h = refl
+light_uses (b ∷ bs) h = and_both (is_light (ask_of b)) (list_all is_light (map ask_of bs)) (and_left (is_light (ask_of b)) _ h) (light_uses bs (and_right (is_light (ask_of b)) _ h))
 
-pub light-left : (xs ys : List Ask) → AreLight (xs ++ ys) → AreLight xs
-light-left [] ys h = tt
-light-left (x ∷ xs) ys h = (h.0, light-left xs ys h.1)
-
-pub light-right : (xs ys : List Ask) → AreLight (xs ++ ys) → AreLight ys
-light-right [] ys h = h
-light-right (x ∷ xs) ys h = light-right xs ys h.1
-
-booking_light : (t : Tables) (b : BookingRow) → AreWellFormed t → IsIn b t.bookings → b.effort ≤ effort_limit
+booking_light : (t : Tables) (b : BookingRow) → AreWellFormed t → IsIn b t.bookings → is_light (ask_of b) ≡ true
 booking_light t b w i =
     let kept = w.field (key_of (Booking b)) (Booking b) (contains_from_in (map Booking t.bookings) (Booking b) (in_mapped Booking b t.bookings i)) refl in
     let rules = rules_kept (booking_rules b) (none_from (first_broken (booking_rules b)) (and_left (is_none (first_broken (booking_rules b))) true kept)) in
-    let e = and_right (nat_le 1 b.effort) (nat_le b.effort effort_limit) rules.1.0 in
-    grind (arith, nat_tests)
+    and_right (nat_le 1 b.effort) (nat_le b.effort effort_limit) rules.1.0
 
 -- those that stand in well-formed tables
-pub some_light : (t : Tables) (bs : List BookingRow) → AreWellFormed t → ((b : BookingRow) → IsIn b bs → IsIn b t.bookings) → AreLight (map ask_of bs)
-some_light t bs w h = all_from (λ (a : Ask). a.effort ≤ effort_limit) (map ask_of bs) (λ a i.
-    let b = in-map ask_of a bs i in
-    let l = booking_light t b.0 w (h b.0 b.1) in
-    let e = ap (λ (x : Ask). x.effort) b.2 in omega (arith, l, e))
+pub some_light : (t : Tables) (bs : List BookingRow) → AreWellFormed t → ((b : BookingRow) → IsIn b bs → IsIn b t.bookings) → AreLightBookings bs
+some_light t bs w h = list_all_from (λ (b : BookingRow). is_light (ask_of b)) bs (λ b i. booking_light t b w (h b i))
 
 -- those of a group's picks
 pub asks_light : (t : Tables) (g : GroupRow) (s : ℕ) (picks : List (Option ℕ)) → AreWellFormed t → Contains t.groups g → AreLight (asks_for g s picks)
-asks_light t g s picks w c = all_from (λ (a : Ask). a.effort ≤ effort_limit) (asks_for g s picks) (λ a i.
+asks_light t g s picks w c = list_all_from is_light (asks_for g s picks) (λ a i.
     let x = in-map (ask_for s) a (choices_of 0 g.leaves picks) i in
     let l = leaf_light t g w c x.0.leaf (choice_from 0 g.leaves picks x.0 x.1).0 in
-    let e = ap (λ (y : Ask). y.effort) x.2 in omega (arith, l, e))
+    let e = ap (λ (y : Ask). y.effort) x.2 in within_is a.effort effort_limit (omega (arith, l, e)))

@@ -19,10 +19,10 @@ use Rattle.desk_base.specs.Changes.{with_change}
 use Rattle.desk_base.specs.Acts.{after_act, change_of}
 use Rattle.desk_base.specs.Steps.{IsConflict}
 use Rattle.desk_base.specs.TableLimits.{limit_of}
-use Rattle.desk_base.specs.Efforts.{AreLight}
+use Rattle.desk_base.specs.Efforts.{AreLightBookings}
 use Rattle.desk_base.specs.Sound.{IsSound}
 use Rattle.desk_base.proofs.Sounds.{few_keys, well_formed}
-use Rattle.desk_base.proofs.Efforts.{light-append, some_light}
+use Rattle.desk_base.proofs.Efforts.{some_light}
 use Rattle.desk_base.proofs.Shapes.{few_bookings}
 use Rattle.desk_core.specs.declared.entering.NotEntered.{NotEntered}
 use Rattle.desk_core.specs.declared.entering.NotEntered.TheVariants.{Refused, NoMemory}
@@ -65,7 +65,7 @@ can_be_tried t call (act.Put row) s h e = record {
   no_removes = refl;
   few = subst (λ l. length l ≤ limit_of BookingTable) (sym (bookings_stay t call row h)) (few_bookings t s);
   few_members = subst (λ l. length l ≤ limit_of MemberTable) (sym (members_stay t call row h)) (few_members t s);
-  light = subst (λ l. AreLight (map ask_of l ++ [])) (sym (bookings_stay t call row h)) (light-append (map ask_of t.bookings) [] (some_light t t.bookings (well_formed t s) (λ b i. i)) tt);
+  light = subst AreLightBookings (sym (bookings_stay t call row h)) (some_light t t.bookings (well_formed t s) (λ b i. i));
 }
 can_be_tried t call _ s h e = absurd (false≢true e)
 

@@ -1,5 +1,5 @@
 -- What comes of a change: it is entered, or a refusal applies.
-use Rattle.std.specs.Prelude.{◌≡◌, ◌≤◌, Bool, true, false, List, [], ◌++◌, map, length, Result, Ok, Err, ⊤}
+use Rattle.std.specs.Prelude.{◌≡◌, ◌≤◌, Bool, true, false, List, [], map, length, Result, Ok, Err, ⊤}
 use Rattle.desk_base.specs.declared.booking_rows.Receipt.{Receipt}
 use Rattle.desk_base.specs.declared.tables.Tables.{Tables}
 use Rattle.desk_base.specs.declared.tables.Table.TheVariants.{Booking, Member}
@@ -15,7 +15,7 @@ use Rattle.desk_base.specs.declared.answers.Reply.TheVariants as reply
 use Rattle.desk_base.specs.Rows.{key_of}
 use Rattle.desk_base.specs.TableLimits.{limit_of}
 use Rattle.desk_base.specs.Load.{Fits, ask_of}
-use Rattle.desk_base.specs.Efforts.{AreLight}
+use Rattle.desk_base.specs.Efforts.{AreLightBookings}
 use Rattle.desk_base.specs.Changes.{with_change}
 use Rattle.desk_base.specs.Acts.{after_act}
 use Rattle.desk_base.specs.Steps.{bears_on_room, IsConflict, IsLateRefusal, IsRefused}
@@ -36,7 +36,7 @@ pub record CanBeTried (t : Tables) (c : Change) : Type 0 where
   pub no_removes : c.removes ≡ []
   pub few : length (with_change t c).bookings ≤ limit_of Booking
   pub few_members : length (with_change t c).members ≤ limit_of Member
-  pub light : AreLight (map ask_of (with_change t c).bookings ++ [])
+  pub light : AreLightBookings (with_change t c).bookings
 
 -- in these tables the standing bookings clash, which was looked for, or memory was wanting
 abbrev pub IsClashing : Bool → Tables → NotEntered → Type 0

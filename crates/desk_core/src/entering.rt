@@ -4,7 +4,7 @@ ghost use Rattle.std.specs.Prelude.{◌≡◌, ◌+◌, ◌≤◌, ◌++◌, ◌
 ghost use Rattle.desk_base.specs.Acts.{after_act, made_by, receipt_of};
 ghost use Rattle.desk_base.specs.Changes.{with_change};
 ghost use Rattle.desk_base.specs.Limits.{serial_limit};
-ghost use Rattle.desk_base.specs.Efforts.{AreLight};
+ghost use Rattle.desk_base.specs.Efforts.{AreLightBookings};
 ghost use Rattle.desk_base.specs.Load.{Fits, ask_of};
 ghost use Rattle.desk_base.specs.Lookups.{KeysRise};
 ghost use Rattle.desk_base.specs.Sound.{IsSound};
@@ -63,7 +63,7 @@ fn act_bears_on_room(act: &Act) -> bool
 fn standing_clash(alloc: Global, tables: &Tables) -> Result<Option<Clash>, NoMemory>
     requires few { length tables.now.bookings ≤ limit_of Booking }
     requires few_members { length tables.now.members ≤ limit_of Member }
-    requires light { AreLight (map ask_of tables.now.bookings ++ []) }
+    requires light { AreLightBookings tables.now.bookings }
     ensures { IfOk result (λ c. MatchOption c (Fits tables.now (map ask_of tables.now.bookings ++ [])) (λ c. IsConflict tables.now tables.now.bookings [] c)) }
 {
     clash(alloc, tables, tables.bookings.as_slice(), &[])
@@ -74,7 +74,7 @@ fn standing_clash(alloc: Global, tables: &Tables) -> Result<Option<Clash>, NoMem
 fn keep_or_take_back(alloc: Global, tried: Tried) -> (Tables, Result<(), NotEntered>)
     requires few { length tried.tables.bookings ≤ limit_of Booking }
     requires few_members { length tried.tables.members ≤ limit_of Member }
-    requires light { AreLight (map ask_of tried.tables.bookings ++ []) }
+    requires light { AreLightBookings tried.tables.bookings }
     ensures after { OnOk result.1 (result.0 ≡ tried.tables) }
     ensures fits { OnOk result.1 (Fits tried.tables (map ask_of tried.tables.bookings ++ [])) }
     ensures refused { IfErr result.1 (IsClashing true tried.tables) }

@@ -2,7 +2,7 @@
 use Rattle.std.proofs.Common.{◌≡◌, ℕ, ◌+◌, ◌*◌, ◌≤◌, true, not, ◌==◌, List, [], ◌∷◌, ◌++◌, map, length, Option, Some, None, refl, sym, ap, subst, arith, is_none, unwrap_or}
 use Rattle.std.proofs.lemmas.Bool.{false≢true}
 use Rattle.std.proofs.lemmas.List.{length-map}
-use Rattle.std.specs.Prelude.{option_map, Contains}
+use Rattle.std.specs.Prelude.{option_map}
 use Rattle.std.specs.List.{list_all}
 use Rattle.std.specs.Option.{option_or}
 use Rattle.desk_base.specs.declared.tables.Tables.{Tables}
@@ -16,17 +16,17 @@ use Rattle.desk_base.specs.declared.rules.LeafRule.{LeafRule}
 use Rattle.desk_base.specs.declared.tables.Table.TheVariants.{Member as MemberTable, Booking as BookingTable}
 use Rattle.desk_base.specs.declared.tables.AnyRow.TheVariants.{Member, Booking}
 use Rattle.desk_base.specs.TableLimits.{limit_of}
-use Rattle.desk_base.specs.Efforts.{AreLight}
+use Rattle.desk_base.specs.Efforts.{AreLightBookings}
 use Rattle.desk_base.specs.Sound.{AreWellFormed}
 use Rattle.desk_base.specs.Eligible.{first_broken_at}
-use Rattle.desk_base.specs.Load.{Fits, ask_of}
+use Rattle.desk_base.specs.Load.{Fits}
 use Rattle.desk_base.specs.Picks.{Choice, choices_of, first_broken_same}
 use Rattle.desk_base.specs.Listing.{IsFeasible, serves, other_asks, asks_for}
 use Rattle.desk_base.specs.Verdicts.{Unserved, first_unserved, HasShape, IsServed}
 use Rattle.desk_base.specs.Steps.{others_of, IsConflict, IsPlaceRefusal}
 use Rattle.desk_base.proofs.Clashes.{clash-not_fits}
 use Rattle.desk_base.proofs.Members.{in-filter}
-use Rattle.desk_base.proofs.Efforts.{light-append, some_light, asks_light}
+use Rattle.desk_base.proofs.Efforts.{some_light}
 use Rattle.desk_base.proofs.Tests.{and_both}
 use Rattle.desk_search.specs.PlaceRefusals.{not_eligible}
 use Rattle.desk_search.proofs.Asks.{length_asks, length_filtered}
@@ -39,10 +39,9 @@ few_members t w = let h = w.limit MemberTable in let e = length-map t.members Me
 pub few_bookings : (t : Tables) → AreWellFormed t → length t.bookings ≤ 10 * limit_of BookingTable
 few_bookings t w = let h = w.limit BookingTable in let e = length-map t.bookings Booking in omega (arith, h, e)
 
--- neither the others' bookings nor those that are asked for exceed the greatest effort
-pub all_light : (t : Tables) (g : GroupRow) (s : ℕ) (picks : List (Option ℕ)) → AreWellFormed t → Contains t.groups g → AreLight (map ask_of (others_of t g.id) ++ asks_for g s picks)
-all_light t g s picks w c =
-    light-append (map ask_of (others_of t g.id)) (asks_for g s picks) (some_light t (others_of t g.id) w (λ b i. (in-filter (λ (b : BookingRow). not (b.group == g.id)) b t.bookings i).0)) (asks_light t g s picks w c)
+-- no booking of others exceeds the greatest effort
+pub others_light : (t : Tables) (id : ℕ) → AreWellFormed t → AreLightBookings (others_of t id)
+others_light t id w = some_light t (others_of t id) w (λ b i. (in-filter (λ (b : BookingRow). not (b.group == id)) b t.bookings i).0)
 
 -- the bookings of others and those that are asked for are no more than all bookings and the leaves
 pub few_together : (t : Tables) (g : GroupRow) (s n : ℕ) (picks : List (Option ℕ)) (others : List BookingRow) (asked : List Ask) → others ≡ others_of t g.id → asked ≡ asks_for g s picks → length t.bookings + length g.leaves ≤ n → length others + length asked ≤ n

@@ -4,7 +4,7 @@ ghost use Rattle.desk_base.specs.Limits.{end_of_minutes, first_minute};
 ghost use Rattle.desk_base.specs.TableLimits.{limit_of};
 ghost use Rattle.desk_base.specs.declared.tables.Table.TheVariants.{Member};
 ghost use Rattle.desk_base.specs.Load.{ask_of, Fits, room, weight, counts, shown_at, IsWithinRoom};
-ghost use Rattle.desk_base.specs.Efforts.{AreLight};
+ghost use Rattle.desk_base.specs.Efforts.{AreLight, AreLightBookings};
 ghost use Rattle.desk_base.specs.Steps.{IsConflict, shown_of};
 ghost use Rattle.desk_search.specs.Rooms.{has_room_at};
 ghost use Rattle.desk_search.specs.Clashes.{lesser, next_over, least_over, is_busy, nearer, next_start, IsFirstOver};
@@ -188,7 +188,8 @@ pub fn clash(
 ) -> Result<Option<Clash>, NoMemory>
     requires few { length standing.now + length asked.now ≤ 2 ^ 22 }
     requires few_members { length tables.now.members ≤ limit_of Member }
-    requires light { AreLight (map ask_of standing.now ++ asked.now) }
+    requires light_standing { AreLightBookings standing.now }
+    requires light { AreLight asked.now }
     ensures { IfOk result (λ c. MatchOption c (Fits tables.now (map ask_of standing.now ++ asked.now)) (λ c. IsConflict tables.now standing.now asked.now c)) }
 {
     let uses = uses_of(alloc, standing)?;

@@ -3,13 +3,11 @@
 //! `capacity::capacity` is the capacity of a plain resource at a minute. `first_broken_rule` and `first_broken_at` say which
 //! rule of a leaf a resource breaks. `live_positions` lists every position from which a search goes on, `rows` the feasible
 //! rows among them, and `page` the page after any position. `clash` is where bookings do not fit, and `place_refusal` why a
-//! group cannot be booked with some picks. Each is the definition that it is named for, for every group of sound tables: the
-//! one other answer is `NoMemory`.
+//! group cannot be booked with some picks. Each is the definition that it is named for, for every group of well-formed
+//! tables: the one other answer is `NoMemory`.
 #![tactic(auto)]
 
 pub mod capacity;
-#[cfg(test)]
-mod clash_cases;
 mod clashes;
 mod events;
 mod extracts;

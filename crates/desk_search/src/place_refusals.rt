@@ -2,7 +2,7 @@
 //!
 //! The points are judged in the order grid, shape, eligibility, part-of-same, room, each by a function of its own that goes on
 //! with the next.
-ghost use Rattle.std.specs.Prelude.{◌≡◌, [], ◌++◌, ◌+◌, ◌<◌, ◌≤◌, ◌^◌, nat_le, length, map, true, None, option_map, Contains, IfOk, MatchOption};
+ghost use Rattle.std.specs.Prelude.{◌≡◌, [], ◌++◌, ◌+◌, ◌<◌, ◌≤◌, ◌^◌, nat_le, length, true, None, option_map, Contains, IfOk, MatchOption};
 ghost use Rattle.std.specs.List.{list_all};
 ghost use Rattle.desk_base.specs.Sound.{AreWellFormed};
 ghost use Rattle.desk_base.specs.Limits.{end_of_minutes};
@@ -11,8 +11,8 @@ ghost use Rattle.desk_base.specs.declared.tables.Table.TheVariants.{Member as Me
 ghost use Rattle.desk_base.specs.Trees.{tree_of, patterns, leaf_count};
 ghost use Rattle.desk_base.specs.Picks.{choices_of, pattern_of, first_broken_same};
 ghost use Rattle.desk_base.specs.Time.{leaf_time};
-ghost use Rattle.desk_base.specs.Load.{Fits, ask_of};
-ghost use Rattle.desk_base.specs.Efforts.{AreLight};
+ghost use Rattle.desk_base.specs.Load.{Fits};
+ghost use Rattle.desk_base.specs.Efforts.{AreLight, AreLightBookings};
 ghost use Rattle.desk_base.specs.Listing.{IsOnGrid, IsFeasible, BeginsPattern, other_asks, asks_for};
 ghost use Rattle.desk_base.specs.Verdicts.{IsBadShape, HasShape, IsServed, first_unserved};
 ghost use Rattle.desk_base.specs.Steps.{others_of, IsConflict, IsPlaceRefusal};
@@ -101,7 +101,8 @@ fn clash_with_others(
 ) -> Result<Option<Clash>, NoMemory>
     requires few { length tables.now.bookings + length group.now.leaves ≤ 2 ^ 22 }
     requires few_members { length tables.now.members ≤ limit_of MemberTable }
-    requires light { AreLight (map ask_of (others_of tables.now group.now.id) ++ asks_for group.now start picks.now) }
+    requires light_others { AreLightBookings (others_of tables.now group.now.id) }
+    requires light { AreLight (asks_for group.now start picks.now) }
     requires end { list_all (λ c. nat_le (leaf_time c.leaf start).to end_of_minutes) (choices_of 0 group.now.leaves picks.now) ≡ true }
     ensures { IfOk result (λ c. MatchOption c (Fits tables.now (other_asks tables.now group.now ++ asks_for group.now start picks.now)) (IsConflict tables.now (others_of tables.now group.now.id) (asks_for group.now start picks.now))) }
 {

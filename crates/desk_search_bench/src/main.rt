@@ -23,6 +23,9 @@ const MONDAY_AT_NINE: u32 = 28_935_900;
 /// Minutes of a day.
 const DAY: u32 = 1440;
 
+/// The effort of a booking, at most.
+const MOST_EFFORT: u32 = 1000;
+
 /// The work of each weekday, in minutes of the day.
 const WORK: [(u16, u16); 3] = [(480, 720), (780, 900), (930, 1020)];
 
@@ -124,7 +127,7 @@ fn bookings(alloc: Global, resource: ResourceId) -> Result<Vec<BookingRow>, Allo
     Ok(rows)
 }
 
-/// Whether the bookings fit with those that are asked for; `None` where there are too many rows.
+/// Whether the bookings fit with those that are asked for; `None` where there are too many rows, or efforts that are too great.
 fn fit(
     alloc: Global,
     tables: &Tables,
@@ -132,6 +135,9 @@ fn fit(
     asked: &[Ask],
 ) -> Result<Option<bool>, NoMemory> {
     if standing.len() > 100 || asked.len() > 100 || tables.members.len() > 100 {
+        return Ok(None);
+    }
+    if !standing.iter().all(|b| b.effort <= MOST_EFFORT) || !asked.iter().all(|a| a.effort <= MOST_EFFORT) {
         return Ok(None);
     }
     match clash(alloc, tables, standing, asked)? {

@@ -1,16 +1,13 @@
-use Rattle.std.proofs.Common.{◌++◌, map, sym, ap, subst, ◌∙◌}
-use Rattle.desk_base.specs.Load.{ask_of, weight}
+use Rattle.std.proofs.Common.{◌++◌, sym, ap, subst, ◌∙◌}
+use Rattle.desk_base.specs.Load.{weight}
 use Rattle.desk_base.specs.Efforts.{AreLight}
-use Rattle.desk_base.proofs.Efforts.{light-left, light-right}
+use Rattle.desk_base.proofs.Efforts.{light_uses}
 use Rattle.desk_search.specs.Clashes.{IsFirstOver}
 use Rattle.desk_search.proofs.Overs.{clash_is}
 use Rattle.desk_search.proofs.clashes.clash.Goals as goal
 
 pub weight_at-requires-clause-light : goal.weight_at-requires-clause-light
-weight_at-requires-clause-light c = subst AreLight (sym (c.as_slice-4.ensures.value ∙ c.in_ok-uses.ensures)) (light-left (map ask_of c.args.standing.now) c.args.asked.now c.requires.light)
-
-pub weight_at-requires-2-clause-light : goal.weight_at-requires-2-clause-light
-weight_at-requires-2-clause-light c = light-right (map ask_of c.args.standing.now) c.args.asked.now c.requires.light
+weight_at-requires-clause-light c = subst AreLight (sym (c.as_slice-4.ensures.value ∙ c.in_ok-uses.ensures)) (light_uses c.args.standing.now c.requires.light_standing)
 
 pub returns : goal.returns
 returns c =

@@ -1,17 +1,17 @@
-use Rattle.std.proofs.Common.{◌^◌, ◌++◌, map, sym, ap, ◌∙◌, subst}
+use Rattle.std.proofs.Common.{◌^◌, map, sym, ap, ◌∙◌, subst}
 use Rattle.desk_base.specs.Picks.{choices_of}
 use Rattle.desk_base.specs.Listing.{ask_for}
+use Rattle.desk_base.specs.Efforts.{AreLight, AreLightBookings}
 use Rattle.desk_search.proofs.PlaceRefusals.{few_together}
-use Rattle.desk_base.specs.Load.{ask_of}
-use Rattle.desk_base.specs.Efforts.{AreLight}
-use Rattle.desk_base.specs.Steps.{others_of}
 use Rattle.desk_search.proofs.place_refusals.clash_with_others.Goals as goal
+
+pub clash-requires-clause-light_standing : goal.clash-requires-clause-light_standing
+clash-requires-clause-light_standing c = subst AreLightBookings (sym (c.as_slice-2.ensures.value ∙ c.in_ok-others.ensures)) c.requires.light_others
 
 pub clash-requires-clause-light : goal.clash-requires-clause-light
 clash-requires-clause-light c =
-    let others = c.as_slice-2.ensures.value ∙ c.in_ok-others.ensures in
     let asked = c.as_slice-3.ensures.value ∙ c.in_ok-asked.ensures ∙ ap (λ ls. map (ask_for c.args.start) (choices_of 0 ls c.args.picks.now)) c.as_slice.ensures in
-    subst AreLight (sym (ap (λ l. map ask_of l ++ c.as_slice-3.result.now) others ∙ ap (λ l. map ask_of (others_of c.args.tables.now c.args.group.now.id) ++ l) asked)) c.requires.light
+    subst AreLight (sym asked) c.requires.light
 
 pub clash-requires-clause-few : goal.clash-requires-clause-few
 clash-requires-clause-few c =

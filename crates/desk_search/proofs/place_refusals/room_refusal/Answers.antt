@@ -1,8 +1,9 @@
 use Rattle.std.proofs.Common.{arith}
 use Rattle.desk_base.specs.Picks.{choices_of}
+use Rattle.desk_base.proofs.Efforts.{asks_light}
 use Rattle.desk_base.proofs.Shapes.{few_leaves}
 use Rattle.desk_search.proofs.Asks.{ends_fit}
-use Rattle.desk_search.proofs.PlaceRefusals.{few_members, few_bookings, all_light, feasible, conflict}
+use Rattle.desk_search.proofs.PlaceRefusals.{few_members, few_bookings, others_light, feasible, conflict}
 use Rattle.desk_search.proofs.place_refusals.room_refusal.Goals as goal
 
 pub clash_with_others-requires-clause-few : goal.clash_with_others-requires-clause-few
@@ -11,8 +12,11 @@ clash_with_others-requires-clause-few c = omega (arith, few_bookings c.args.tabl
 pub clash_with_others-requires-clause-few_members : goal.clash_with_others-requires-clause-few_members
 clash_with_others-requires-clause-few_members c = few_members c.args.tables.now c.requires.formed
 
+pub clash_with_others-requires-clause-light_others : goal.clash_with_others-requires-clause-light_others
+clash_with_others-requires-clause-light_others c = others_light c.args.tables.now c.args.group.now.id c.requires.formed
+
 pub clash_with_others-requires-clause-light : goal.clash_with_others-requires-clause-light
-clash_with_others-requires-clause-light c = all_light c.args.tables.now c.args.group.now c.args.start c.args.picks.now c.requires.formed c.requires.there
+clash_with_others-requires-clause-light c = asks_light c.args.tables.now c.args.group.now c.args.start c.args.picks.now c.requires.formed c.requires.there
 
 pub clash_with_others-requires-clause-end : goal.clash_with_others-requires-clause-end
 clash_with_others-requires-clause-end c = ends_fit c.args.tables.now c.args.group.now c.args.start (choices_of 0 c.args.group.now.leaves c.args.picks.now) (omega (arith, c.get-end.ensures.value, c.get-end.ensures.high)) c.requires.served.serve

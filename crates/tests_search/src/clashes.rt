@@ -1,10 +1,10 @@
 //! Worked clashes over the trial tables and small changes of them: 1 and 2 work on Monday, 2025-01-06, from 08:00 to 12:00, and 3
 //! from 10:00.
-use crate::clash;
 use desk_base::{
     Ask, BookingId, BookingRow, Clash, GroupId, Kind, MemberRow, Minute, Name, NoMemory, OffRow,
     ResourceId, ResourceRow, Shown, SiteId, Tables, UnitId, Window,
 };
+use desk_search::clash;
 use std::alloc::Global;
 
 /// A resource, and from when on and until when it is used.
@@ -80,6 +80,9 @@ fn clash_of(
         asks.push(ask(*used)?).ok()?;
     }
     if bookings.len() > 100 || asks.len() > 100 || tables.members.len() > 100 {
+        return None;
+    }
+    if !bookings.iter().all(|b| b.effort <= 1000) || !asks.iter().all(|a| a.effort <= 1000) {
         return None;
     }
     answered(clash(alloc, tables, bookings.as_slice(), asks.as_slice()))
