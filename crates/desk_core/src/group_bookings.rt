@@ -1,6 +1,6 @@
 //! The standing bookings of a group, and what bookings come to.
 ghost use Rattle.std.specs.Prelude.{◌≡◌, ◌-◌, ◌*◌, ◌≤◌, ◌^◌, length, IfOk};
-ghost use Rattle.desk_base.specs.Limits.{node_limit};
+ghost use Rattle.desk_base.specs.Limits.{first_minute, end_of_minutes, node_limit};
 ghost use Rattle.desk_base.specs.Groups.{booked_for, effort_minutes, is_booked};
 
 use desk_base::{BookingRow, GroupId, Tables};
@@ -37,7 +37,7 @@ pub(crate) fn booked_for(
 /// Effort times minutes of a booking.
 fn effort_minutes_of(booking: &BookingRow) -> u64
     ensures value { result ≡ booking.now.effort * (booking.now.to - booking.now.from) }
-    ensures within { result ≤ 2 ^ 58 }
+    ensures within { result ≤ (end_of_minutes - first_minute) * 2 ^ 32 }
 {
     let minutes = booking.to.get().saturating_sub(booking.from.get());
     u64::from(booking.effort) * u64::from(minutes)

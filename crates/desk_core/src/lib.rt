@@ -5,8 +5,6 @@ mod accepting;
 mod answering;
 mod book;
 mod callers;
-#[cfg(test)]
-mod cases;
 mod changing;
 mod citing;
 mod early;

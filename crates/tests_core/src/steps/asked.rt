@@ -43,6 +43,7 @@ pub struct Pages {
     pub after: Option<(u64, u32, u32)>,
     pub latest: bool,
     pub limit: u32,
+    pub per: Option<u32>,
 }
 
 /// A command: a change of caller 7 with its number, or a question.
@@ -131,11 +132,12 @@ fn resource(alloc: Global, id: u32, calendar: u32, unit: u32) -> Result<Act, Fai
     })))
 }
 
-fn leaf(alloc: Global) -> Leaf
+fn leaf(alloc: Global, offset: u32) -> Leaf
     ensures { IsPlainLeaf result }
 {
     Leaf {
         duration: 60,
+        offset,
         effort: 1,
         kinds: Items::new(alloc),
         roles: Items::new(alloc),
@@ -162,6 +164,7 @@ fn group_row(
     from: Minute,
     to: Minute,
     step: u16,
+    offset: u32,
 ) -> Result<GroupRow, NoMemory>
     ensures { IfOk result HasPlainLeaf }
 {
@@ -177,14 +180,24 @@ fn group_row(
         to,
         step,
         nodes: one(alloc, node)?,
-        leaves: one(alloc, leaf(alloc))?,
+        leaves: one(alloc, leaf(alloc, offset))?,
     })
 }
 
 fn group(alloc: Global, id: u32, from: u32, to: u32, step: u16) -> Result<Act, Fail>
     ensures { IfOk result IsServed }
 {
-    let row = group_row(alloc, group_id(id)?, minute(from)?, minute(to)?, step)?;
+    let row = group_row(alloc, group_id(id)?, minute(from)?, minute(to)?, step, 0)?;
+    Ok(Act::PutGroup(row))
+}
+
+/// A group from 08:00 to 12:00, of one leaf of 60 minutes, so many minutes after its start.
+pub fn late_leaf(alloc: Global, id: u32, offset: u32) -> Result<Act, Fail>
+    ensures { IfOk result IsServed }
+{
+    let from = minute(28_935_840)?;
+    let to = minute(28_936_080)?;
+    let row = group_row(alloc, group_id(id)?, from, to, 60, offset)?;
     Ok(Act::PutGroup(row))
 }
 
@@ -250,7 +263,11 @@ fn cursor(alloc: Global, revision: u64, start: u32, pick: u32) -> Result<Cursor,
     let start = minute(start)?;
     let picks = one(alloc, Some(resource_id(pick)?))?;
     let position = Position { start, picks };
-    Ok(Cursor { revision, position })
+    Ok(Cursor {
+        revision,
+        shown: None,
+        position,
+    })
 }
 
 fn rows(alloc: Global, pages: Pages) -> Result<Query, Fail> {
@@ -264,7 +281,11 @@ fn rows(alloc: Global, pages: Pages) -> Result<Query, Fail> {
     };
     Ok(Query::Rows {
         group: group_id(pages.group)?,
-        options: Options { from, to: None },
+        options: Options {
+            from,
+            to: None,
+            per: pages.per,
+        },
         after,
         latest: pages.latest,
         limit: pages.limit,

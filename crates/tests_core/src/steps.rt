@@ -7,10 +7,10 @@ ghost use Rattle.desk_core.specs.Built.{IsServed};
 mod asked;
 mod told;
 
-use crate::Book;
-use asked::{Asked, Pages, Picked, Wanted, change, command_of, unit, zone};
+use asked::{Asked, Pages, Picked, Wanted, change, command_of, late_leaf, unit, zone};
 use desk_base::laws::trial_is_sound;
-use desk_base::{Act, CallNumber, Field, NoMemory, Table, Tables};
+use desk_base::{Act, CallNumber, Field, LeafRule, NoMemory, Table, Tables};
+use desk_core::Book;
 use std::alloc::Global;
 use std::process::Abort;
 use std::test::Fail;
@@ -311,6 +311,7 @@ fn after(revision: u64, start: u32, pick: u32, latest: bool) -> Asked {
         after: Some((revision, start, pick)),
         latest,
         limit: 4,
+        per: None,
     })
 }
 
@@ -337,7 +338,37 @@ fn fifty(group: u32, from: Option<u32>) -> Asked {
         after: None,
         latest: false,
         limit: 50,
+        per: None,
     })
+}
+
+/// The first rows of group 1, so many of each start.
+fn of_each_start(per: u32, limit: u32) -> Asked {
+    Asked::Rows(Pages {
+        group: 1,
+        from: None,
+        after: None,
+        latest: false,
+        limit,
+        per: Some(per),
+    })
+}
+
+#[test]
+fn pages_show_1_to_500_rows_and_as_many_of_a_start(rt: HostRuntime) -> Result<(), Fail> {
+    let rows = [(EIGHT, 1), (NINE, 1), (TEN, 1), (ELEVEN, 1)];
+    let lines = [
+        (
+            of_each_start(1, 50),
+            Told::Page(rows, 4, (ELEVEN, 1), true),
+            0,
+        ),
+        (of_each_start(0, 50), Told::Bad(Field::Per), 0),
+        (of_each_start(501, 50), Told::Bad(Field::Per), 0),
+        (of_each_start(0, 0), Told::Bad(Field::Limit), 0),
+        (of_each_start(1, 501), Told::Bad(Field::Limit), 0),
+    ];
+    go_through_trial(&rt, rt.alloc(), &lines)
 }
 
 #[test]
@@ -402,6 +433,34 @@ fn zones_begin_with_the_horizon(rt: HostRuntime) -> Result<(), Fail> {
     let mut book = Book::over(alloc, trial(alloc)?);
     let done = zones(&rt, alloc, &mut book);
     discard(book);
+    done
+}
+
+fn offsets(rt: &impl Abort, alloc: Global, book: &mut Book) -> Result<(), Fail> {
+    let late = tell(alloc, book, 1, late_leaf(alloc, 2, 20_161)?)?;
+    assert_eq!(rt; late, Told::Bad(Field::Offset));
+    let group = tell(alloc, book, 1, late_leaf(alloc, 2, 60)?)?;
+    assert_eq!(rt; group, PUT);
+    let book_at = |start| by(2, Wanted::Book(2, start, Picked::One(1)));
+    let lines = [
+        (
+            book_at(ELEVEN),
+            Told::NotEligible(0, 1, LeafRule::Window),
+            1,
+        ),
+        (book_at(TEN), Told::Done(Given::Booked(1, 1, 60)), 2),
+    ];
+    go_through(rt, alloc, book, &lines)
+}
+
+#[test]
+fn a_leaf_with_an_offset_is_booked_later(rt: HostRuntime) -> Result<(), Fail> {
+    let alloc = rt.alloc();
+    let mut book = Book::over(alloc, trial(alloc)?);
+    let done = offsets(&rt, alloc, &mut book);
+    let last = last_end(&book);
+    discard(book);
+    assert_eq!(&rt; last, NOON);
     done
 }
 

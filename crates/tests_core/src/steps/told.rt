@@ -1,6 +1,6 @@
 //! What commands came to, as plain values that can be compared.
 use desk_base::{
-    Answer, Clash, Field, Outcome, Page, Position, Receipt, Refusal, Reply, ResourceId, Shown,
+    Answer, Clash, Field, LeafRule, Outcome, Page, Position, Receipt, Refusal, Reply, ResourceId, Shown,
     Table,
 };
 
@@ -32,6 +32,7 @@ pub enum Told {
     Moved(u64, u64),
     OffGrid(u32),
     BadShape(u8),
+    NotEligible(u8, u32, LeafRule),
     /// The booking that is shown is 0 for a gap.
     Conflict {
         resource: u32,
@@ -90,6 +91,9 @@ fn told_of_refusal(refusal: &Refusal) -> Told {
         Refusal::Moved(shown, now) => Told::Moved(*shown, *now),
         Refusal::OffGrid(start) => Told::OffGrid(start.get()),
         Refusal::BadShape(leaf) => Told::BadShape(*leaf),
+        Refusal::NotEligible(leaf, resource, rule) => {
+            Told::NotEligible(*leaf, resource.get(), *rule)
+        }
         Refusal::Conflict(clash) => told_of_clash(clash),
         _ => Told::Other,
     }

@@ -1,0 +1,2 @@
+-- That the tables of the tests are sound.
+mod RelaysSound

@@ -1,0 +1,24 @@
+-- The trial tables with a group of two leaves are sound.
+use Rattle.std.proofs.Common.{◌≡◌, refl, [], None}
+use Rattle.desk_base.specs.declared.changes.Act.TheVariants as act
+use Rattle.desk_base.specs.Acts.{after_act}
+use Rattle.desk_base.specs.Refusing.{early_refusal}
+use Rattle.desk_base.specs.Sound.{IsSound}
+use Rattle.desk_base.specs.Trial.{trial}
+use Rattle.desk_base.proofs.TrialSound.{trial_sound}
+use Rattle.desk_base.proofs.AcceptedPuts.{sound_put_group}
+use Rattle.tests_core.specs.Relays.{relay, twice, first_call}
+
+relay_not_refused : early_refusal trial [] first_call (act.PutGroup relay) ≡ None
+unfolding early_refusal
+relay_not_refused = refl
+
+pub relay_sound : IsSound (after_act trial first_call (act.PutGroup relay))
+relay_sound = sound_put_group trial [] first_call relay trial_sound relay_not_refused
+
+twice_not_refused : early_refusal trial [] first_call (act.PutGroup twice) ≡ None
+unfolding early_refusal
+twice_not_refused = refl
+
+pub twice_sound : IsSound (after_act trial first_call (act.PutGroup twice))
+twice_sound = sound_put_group trial [] first_call twice trial_sound twice_not_refused

@@ -1,0 +1,11 @@
+use Rattle.std.proofs.Common.{sym, ap, subst, ◌∙◌}
+use Rattle.desk_base.specs.Acts.{after_act}
+use Rattle.desk_base.specs.Sound.{IsSound}
+use Rattle.desk_base.specs.Trial.{trial}
+use Rattle.desk_base.specs.declared.changes.Act.TheVariants.{PutGroup}
+use Rattle.tests_core.specs.Relays.{first_call}
+use Rattle.tests_core.proofs.RelaysSound.{twice_sound}
+use Rattle.tests_core.proofs.relays.twice_tables.Goals as goal
+
+pub returns : goal.returns
+returns c = subst IsSound (sym (c.in_ok-tables.ensures ∙ ap (λ g. after_act trial first_call (PutGroup g)) c.in_ok-group.ensures)) twice_sound
