@@ -1,0 +1,71 @@
+-- A view is cut in two.
+use Rattle.std.proofs.Common.{◌≡◌, ℕ, zero, suc, eqb, ◌+◌, ◌<◌, ◌≤◌, ◌^◌, ◌==◌, ◌≢◌, max, Bool, true, false, List, [], ◌∷◌, ◌++◌, length, filter, get_or, set, Option, Some, None, All, refl, sym, ap, ◌∙◌, subst, ⊎_elim, inl, inr, ◌⊎◌, arith, eq-eqb, ne_eqb, append-nil, length-append}
+use Rattle.std.specs.Bool.{MatchBool}
+use mathlib.Core.Option as slot
+use mathlib.Core.Option.{some, none, some-injective, some-ne-none}
+use mathlib.Core.Logic.{dite}
+use native.Mathlib.Decide.{ℕ_discrete}
+use lib.ListN.{get_elem?}
+use prog.Atomic.{either}
+use Rattle.atomic_table.specs.Table.{State, Me, Act, keeps, takes, gives, step, stepped, Allows, Splits, Joins, Valid, carried_after, put_back, opening}
+use Rattle.atomic_table.proofs.Lists.{at_set, at_snoc, at_longer, set_here, set_else, exchanged}
+use Rattle.std.proofs.lemmas.List.Elements.{All-nil}
+use Rattle.desk_gate.specs.declared.counted.Counted.{Ghosts}
+use Rattle.desk_gate.specs.declared.view.View.{View}
+use Rattle.desk_gate.specs.Histories.{Begins, entries_of}
+use Rattle.desk_gate.specs.Views.{waits, newcomer, spent, looked_at, drew, took, began, raised, settled, passed_on, read, marked, left_over, cut_off, joined}
+use Rattle.desk_gate.specs.Rule.{LockState, words_of, total, IsConsistent, Fits, IsHome, IsOut, Core, Sums, IsKept, NamesAtMost}
+use Rattle.desk_gate.specs.Told.{Looked, Drew, Continues, Found, Began, Raised, Settled, PassedOn, Read, Marked, Told}
+use Rattle.desk_gate.proofs.Histories.{begins-length, entries-append, filter_own, filter_other, drop-whole}
+use Rattle.desk_gate.proofs.Sums.{at_length, total_set, total_snoc, total_at, total_alone, apart_set, apart_snoc, clash}
+use Rattle.desk_gate.proofs.Views as views
+use Rattle.desk_gate.proofs.Views.{same_number, not_both, first_cases}
+use Rattle.desk_gate.proofs.Steps.Changes.{S, Homes, Rule, Fit, base, core_set, lies_same, sums_set, stays, word, alone, is_out}
+
+module _ {X E O : Type 0} (c : Ghosts X E O) (key : X) where
+  -- a new view, with no turn, no number and no value
+  core_snoc : (b : LockState E) (homes : Homes X) (vs : List (View E O)) (w : View E O) → Core c key b homes vs → Fit c key b w → w.turn ≡ None → w.number ≡ None → w.holds ≡ false
+      → Core c key b homes (vs ++ w ∷ [])
+  core_snoc b homes vs w h fit turn number holds = record {
+    order = h.order;
+    most = h.most;
+    fresh = h.fresh;
+    fits = λ i v there. ⊎_elim (λ (t : get_elem? vs i ≡ some v). h.fits i v t) (λ (t : w ≡ v). subst (λ (u : View E O). Fit c key b u) t fit) (at_snoc vs w v i there);
+    turns_apart = apart_snoc (λ (v : View E O). v.turn) vs w h.turns_apart turn;
+    numbers_apart = apart_snoc (λ (v : View E O). v.number) vs w h.numbers_apart number;
+    lies = ⊎_elim
+        (λ (o : IsHome c key b homes vs). inl (
+          o.0,
+          o.1,
+          o.2,
+          o.3,
+          o.4,
+          λ i v there. ⊎_elim
+              (λ (t : get_elem? vs i ≡ some v). o.5 i v t)
+              (λ (t : w ≡ v). ap (λ (u : View E O). u.holds) (sym t) ∙ holds)
+              (at_snoc vs w v i there),
+        ))
+        (λ (o : IsOut c key homes vs). inr (o.0, o.1, o.2, at_longer vs (w ∷ []) o.1 o.2 o.3, o.4))
+        h.lies;
+  }
+
+  pub splits : (id : ℕ) (v : View E O) → v.part < v.share → Splits (Rule c key) id v (left_over v) (cut_off v)
+  splits id v part s h at =
+      let b : LockState E = h.state in
+      let old = h.core.fits id v at in
+      let left : View E O = left_over v in
+      let vs : List (View E O) = set s.views id left in
+      let core : Core c key b s.homes vs = core_set c key b b s.homes s.homes s.views id v left h.core at h.core.order h.core.most h.core.fresh (λ i u ne is f. f)
+      (views.leaves_over c.author (base c key) (c.origin_of key) b v old part) (λ n e. inl e) (λ n e. inl e) (lies_same c key b b s.homes s.views id v left at refl refl refl h.core.lies) in
+      let s1 = total_set (λ (v : View E O). v.share) s.views id v left at in
+      let s2 = total_snoc (λ (v : View E O). v.share) vs (cut_off v) in
+      let e1 = total_set (λ (v : View E O). length v.turns) s.views id v left at in
+      let e2 = total_snoc (λ (v : View E O). length v.turns) vs (cut_off v) in
+      let w1 = total_set (λ (v : View E O). waits v.turn) s.views id v left at in
+      let w2 = total_snoc (λ (v : View E O). waits v.turn) vs (cut_off v) in
+      record {
+        state = b;
+        words_are = h.words_are;
+        core = core_snoc b s.homes vs (cut_off v) core (views.cuts_off c.author (base c key) (c.origin_of key) b v old part) refl refl refl;
+        sums = record { shares = let k = h.sums.shares in omega arith; ended = let k = h.sums.ended in omega arith; waiting = let k = h.sums.waiting in omega arith };
+      }
