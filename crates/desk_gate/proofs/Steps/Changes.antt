@@ -10,6 +10,7 @@ use prog.Atomic.{either}
 use Rattle.atomic_table.specs.Table.{State, Me, Act, keeps, takes, gives, step, stepped, Allows, Splits, Joins, Valid, carried_after, put_back, opening}
 use Rattle.atomic_table.proofs.Lists.{at_set, at_snoc, at_longer, set_here, set_else, exchanged}
 use Rattle.std.proofs.lemmas.List.Elements.{All-nil}
+use Rattle.desk_gate.specs.declared.limits.TheConstants.{TURN_LIMIT}
 use Rattle.desk_gate.specs.declared.counted.Counted.{Ghosts}
 use Rattle.desk_gate.specs.declared.view.View.{View}
 use Rattle.desk_gate.specs.Histories.{Begins, entries_of}
@@ -44,7 +45,7 @@ module _ {X E O : Type 0} (c : Ghosts X E O) (key : X) where
   Lies b homes vs = IsHome c key b homes vs ⊎ IsOut c key homes vs
 
   pub core_set : (b b' : LockState E) (homes homes' : Homes X) (vs : List (View E O)) (id : ℕ) (me me' : View E O) (h : Core c key b homes vs) → get_elem? vs id ≡ some me
-      → b'.served ≤ b'.drawn → b'.drawn ≤ 2 ^ 62
+      → b'.served ≤ b'.drawn → b'.drawn ≤ TURN_LIMIT
       → ((n : ℕ) → b'.drawn ≤ n → entries_of c.author n base b'.history ≡ [])
       → ((i : ℕ) (v : View E O) → i ≢ id → get_elem? vs i ≡ some v → Fit b v → Fit b' v)
       → Fit b' me'

@@ -10,6 +10,7 @@ use prog.Atomic.{either}
 use Rattle.atomic_table.specs.Table.{State, Me, Act, keeps, takes, gives, step, stepped, Allows, Splits, Joins, Valid, carried_after, put_back, opening}
 use Rattle.atomic_table.proofs.Lists.{at_set, at_snoc, at_longer, set_here, set_else, exchanged}
 use Rattle.std.proofs.lemmas.List.Elements.{All-nil}
+use Rattle.desk_gate.specs.declared.limits.TheConstants.{WHOLE_SHARE}
 use Rattle.desk_gate.specs.declared.counted.Counted.{Ghosts}
 use Rattle.desk_gate.specs.declared.view.View.{View}
 use Rattle.desk_gate.specs.Histories.{Begins, entries_of}
@@ -24,7 +25,7 @@ use Rattle.desk_gate.proofs.Steps.Changes.{S, Homes, Rule, Fit, base, core_set, 
 
 module _ {X E O : Type 0} (c : Ghosts X E O) (key : X) where
   -- what the gate has when the pass with the whole share closes it
-  pub closes : (s : S X E O) (h : Rule c key s) (id : ℕ) (me : View E O) → get_elem? s.views id ≡ some me → me.share ≡ 4294967296 → me.turn ≡ None → me.holds ≡ false
+  pub closes : (s : S X E O) (h : Rule c key s) (id : ℕ) (me : View E O) → get_elem? s.views id ≡ some me → me.share ≡ WHOLE_SHARE → me.turn ≡ None → me.holds ≡ false
       → (x : X) × (s.homes ≡ some (Some x) ∷ []) × Begins me.seen (c.history x) × ((n : ℕ) → me.number ≡ Some n → entries_of c.author n me.base (c.history x) ≡ me.made)
       × (me.origin ≡ Some (c.origin_of x)) × All (NamesAtMost (c.fault_count x)) me.turns × (me.looked ≤ length me.turns)
   closes s h id me at whole turn idle =

@@ -10,6 +10,7 @@ use prog.Atomic.{either}
 use Rattle.atomic_table.specs.Table.{State, Me, Act, keeps, takes, gives, step, stepped, Allows, Splits, Joins, Valid, carried_after, put_back, opening}
 use Rattle.atomic_table.proofs.Lists.{at_set, at_snoc, at_longer, set_here, set_else, exchanged}
 use Rattle.std.proofs.lemmas.List.Elements.{All-nil}
+use Rattle.desk_gate.specs.declared.limits.TheConstants.{TURN_LIMIT}
 use Rattle.desk_gate.specs.declared.counted.Counted.{Ghosts}
 use Rattle.desk_gate.specs.declared.view.View.{View}
 use Rattle.desk_gate.specs.Histories.{Begins, entries_of}
@@ -26,7 +27,7 @@ use Rattle.desk_gate.proofs.Steps.Looks.{look}
 module _ {X E O : Type 0} (c : Ghosts X E O) (key : X) where
   -- a turn is drawn
   drawn : (s : S X E O) (h : Rule c key s) (id : ℕ) (me : Me (Option X) (View E O)) → get_elem? s.views id ≡ some me.0 → me.0.turn ≡ None → me.0.holds ≡ false → 0 < me.0.share
-      → h.state.drawn < 2 ^ 62
+      → h.state.drawn < TURN_LIMIT
       → Rule c key (stepped s 0 (h.state.drawn + 1) id me.1 (drew h.state.drawn me.0) keeps) × IsConsistent c.author (drew h.state.drawn me.0)
   drawn s h id me at turn idle share room =
       let b : LockState E = h.state in
@@ -48,7 +49,7 @@ module _ {X E O : Type 0} (c : Ghosts X E O) (key : X) where
         fit.consistent,
       )
 
-  pub draws : (slots id next : ℕ) (me : Me (Option X) (View E O)) → me.0.turn ≡ None → me.0.holds ≡ false → 0 < me.0.share → next < 2 ^ 62
+  pub draws : (slots id next : ℕ) (me : Me (Option X) (View E O)) → me.0.turn ≡ None → me.0.holds ≡ false → 0 < me.0.share → next < TURN_LIMIT
       → Allows (Rule c key) slots id me 0 (λ n. either (eqb n next) (next + 1) n) (λ n w. Drew c (step slots 0 next (next + 1) none) me n w)
   draws slots id next me turn idle share room s h len at small =
       let n : ℕ = get_or s.words 0 0 in

@@ -10,6 +10,7 @@ use prog.Atomic.{either}
 use Rattle.atomic_table.specs.Table.{State, Me, Act, keeps, takes, gives, step, stepped, Allows, Splits, Joins, Valid, carried_after, put_back, opening}
 use Rattle.atomic_table.proofs.Lists.{at_set, at_snoc, at_longer, set_here, set_else, exchanged}
 use Rattle.std.proofs.lemmas.List.Elements.{All-nil}
+use Rattle.desk_gate.specs.declared.limits.TheConstants.{TURN_LIMIT}
 use Rattle.desk_gate.specs.declared.counted.Counted.{Ghosts}
 use Rattle.desk_gate.specs.declared.view.View.{View}
 use Rattle.desk_gate.specs.Histories.{Begins, entries_of}
@@ -89,7 +90,7 @@ module _ {X E O : Type 0} (c : Ghosts X E O) (key : X) where
         λ m m_is.
             let same : turn ≡ m = same_number turn m (sym turn_is ∙ m_is) in
             subst (λ b. MatchBool b ((x : X) × (w ≡ (took (c.history x) (c.fault_count x) me.0, (0, Some x) ∷ me.1)) × IsConsistent c.author (took (c.history x) (c.fault_count x) me.0)
-            × Continues c me.0 x × (m < 2 ^ 62)) (w ≡ me))
+            × Continues c me.0 x × (m < TURN_LIMIT)) (w ≡ me))
             (sym (eq-eqb n m (e ∙ same))) (x, refl, t.3.0, t.3.1, omega arith),
       ))
       (λ (ne : n ≢ turn). (
@@ -100,6 +101,6 @@ module _ {X E O : Type 0} (c : Ghosts X E O) (key : X) where
         λ m m_is.
             let same : turn ≡ m = same_number turn m (sym turn_is ∙ m_is) in
             subst (λ b. MatchBool b ((x : X) × (me ≡ (took (c.history x) (c.fault_count x) me.0, (0, Some x) ∷ me.1)) × IsConsistent c.author (took (c.history x) (c.fault_count x) me.0)
-            × Continues c me.0 x × (m < 2 ^ 62)) (me ≡ me))
+            × Continues c me.0 x × (m < TURN_LIMIT)) (me ≡ me))
             (sym (ne_eqb n m (λ e. ne (e ∙ sym same)))) refl,
       ))
