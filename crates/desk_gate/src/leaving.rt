@@ -5,7 +5,7 @@ use crate::counted::Counted;
 use crate::gate::Gate;
 use crate::pass::{Pass, Turn};
 use crate::plays::{PassesOn, Raises, Settles};
-use crate::rule::{COUNT, FAULTS, GateSeat, SERVED};
+use crate::rule::{COUNT, DRAWN, FAULTS, GateSeat, SERVED};
 
 impl<V: Counted> Gate<V> {
     ghost use Rattle.desk_gate.specs.Passes.{held, number_of, IsOf, IsIn, IsSound, Ends};
@@ -25,6 +25,14 @@ impl<V: Counted> Gate<V> {
             self.table
                 .shared
                 .compare_exchange_with::<Raises<V>>(seat, COUNT, start, count, slot);
+        }
+    }
+
+    /// Wakes those that wait, where a turn is drawn that is not over; waking is slow. A caller that draws after this look
+    /// finds the turn that is served, and does not sleep.
+    fn wake_waiting(&self, served: u64) {
+        if self.table.shared.peek(DRAWN) != served {
+            self.table.shared.wake_all(SERVED);
         }
     }
 
@@ -60,7 +68,7 @@ impl<V: Counted> Gate<V> {
         self.table
             .shared
             .store::<PassesOn<V>>(&mut seat, SERVED, turn + 1);
-        self.table.shared.wake_all(SERVED);
+        self.wake_waiting(turn + 1);
         Pass {
             seat,
             number: Some(number),

@@ -11,11 +11,10 @@ ghost use Rattle.desk_gate.specs.Passes.{IsOf};
 
 use desk_gate::{Counted, Entered, Gate, Pass};
 use std::alloc::{AllocError, Global};
-use std::env;
 use std::process::ExitCode;
 use std::sync::Wait;
-use std::thread;
 use std::thread::Threads;
+use std::{env, thread};
 
 /// How many threads there are at most.
 const MOST_THREADS: usize = 4;
