@@ -1,10 +1,10 @@
 #!/usr/bin/env bash
 # What a turn of a gate costs, by one thread and by four that want it all the time, beside the Mutex of Rust's std (`mutex.rs`,
 # which `rustc` compiles here). Run it at the top of the repository, after `rt ci` has built the program. Its words: how many turns
-# one thread takes (5 million), and how many each of four takes (100,000).
+# one thread takes (20 million), and how many each of four takes (2 million).
 set -eu
-alone=${1:-5000000}
-each=${2:-100000}
+alone=${1:-20000000}
+each=${2:-2000000}
 gate=crates/desk_gate_bench/out/desk_gate_bench
 folder=$(mktemp -d)
 trap 'rm -rf "$folder"' EXIT
@@ -23,7 +23,7 @@ compare() {
   by_gate=$(turns "$gate" "$1" "$2")
   by_mutex=$(turns "$mutex" "$1" "$2")
   echo "$1 threads, $2 turns each: gate $by_gate ms, $(($1 * $2 / by_gate * 1000)) a second;" \
-    "Mutex $by_mutex ms, $(($1 * $2 / by_mutex * 1000)) a second; ratio $((by_gate * 100 / by_mutex)) hundredths"
+    "Mutex $by_mutex ms, $(($1 * $2 / by_mutex * 1000)) a second; the gate takes $(awk -v a="$by_gate" -v b="$by_mutex" 'BEGIN { printf "%.2f", a / b }') times as long"
 }
 compare 1 "$alone"
 compare 4 "$each"

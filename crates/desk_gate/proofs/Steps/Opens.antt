@@ -1,26 +1,18 @@
 -- The rule holds of a gate that is made.
-use Rattle.std.proofs.Common.{◌≡◌, ℕ, zero, suc, eqb, ◌+◌, ◌<◌, ◌≤◌, ◌^◌, ◌==◌, ◌≢◌, max, Bool, true, false, List, [], ◌∷◌, ◌++◌, length, filter, get_or, set, Option, Some, None, All, refl, sym, ap, ◌∙◌, subst, ⊎_elim, inl, inr, ◌⊎◌, arith, eq-eqb, ne_eqb, append-nil, length-append}
-use Rattle.std.specs.Bool.{MatchBool}
-use mathlib.Core.Option as slot
-use mathlib.Core.Option.{some, none, some-injective, some-ne-none}
-use mathlib.Core.Logic.{dite}
-use native.Mathlib.Decide.{ℕ_discrete}
+use Rattle.std.proofs.Common.{◌≡◌, ℕ, zero, suc, ◌==◌, false, [], ◌∷◌, length, filter, Some, None, refl, sym, ap, subst, inl, arith, append-nil}
+use mathlib.Core.Option.{some, some-injective, some-ne-none}
 use lib.ListN.{get_elem?}
-use prog.Atomic.{either}
-use Rattle.atomic_table.specs.Table.{State, Me, Act, keeps, takes, gives, step, stepped, Allows, Splits, Joins, Valid, carried_after, put_back, opening}
-use Rattle.atomic_table.proofs.Lists.{at_set, at_snoc, at_longer, set_here, set_else, exchanged}
+use Rattle.atomic_table.specs.Table.{opening}
 use Rattle.std.proofs.lemmas.List.Elements.{All-nil}
 use Rattle.desk_gate.specs.declared.counted.Counted.{Ghosts}
 use Rattle.desk_gate.specs.declared.view.View.{View}
-use Rattle.desk_gate.specs.Histories.{Begins, entries_of}
-use Rattle.desk_gate.specs.Views.{waits, newcomer, spent, looked_at, drew, took, began, raised, settled, passed_on, read, marked, left_over, cut_off, joined}
-use Rattle.desk_gate.specs.Rule.{LockState, words_of, total, IsConsistent, Fits, IsHome, IsOut, Core, Sums, IsKept, NamesAtMost}
-use Rattle.desk_gate.specs.Told.{Looked, Drew, Continues, Found, Began, Raised, Settled, PassedOn, Read, Marked, Told}
-use Rattle.desk_gate.proofs.Histories.{begins-length, entries-append, filter_own, filter_other, drop-whole}
-use Rattle.desk_gate.proofs.Sums.{at_length, total_set, total_snoc, total_at, total_alone, apart_set, apart_snoc, clash}
-use Rattle.desk_gate.proofs.Views as views
-use Rattle.desk_gate.proofs.Views.{same_number, not_both, first_cases}
-use Rattle.desk_gate.proofs.Steps.Changes.{S, Homes, Rule, Fit, base, core_set, lies_same, sums_set, stays, word, alone, is_out}
+use Rattle.desk_gate.specs.Histories.{entries_of}
+use Rattle.desk_gate.specs.Views.{newcomer}
+use Rattle.desk_gate.specs.Rule.{LockState, NamesAtMost}
+use Rattle.desk_gate.proofs.Histories.{drop-whole}
+use Rattle.desk_gate.proofs.Sums.{clash}
+use Rattle.desk_gate.proofs.Views.{not_both}
+use Rattle.desk_gate.proofs.Steps.Changes.{Rule, Fit}
 
 only : {A : Type 0} {a : A} (i : ℕ) (b : A) → get_elem? (a ∷ []) i ≡ some b → a ≡ b
 only {a = a} zero b e = some-injective a b e
