@@ -1,5 +1,5 @@
 -- Passes that are out, and what they have together.
-use Rattle.std.specs.Prelude.{◌≡◌, ◌+◌, ◌*◌, ◌/◌, ℕ, List, length, All}
+use Rattle.std.specs.Prelude.{◌≡◌, ◌+◌, ◌*◌, ◌/◌, List, length, All}
 use Rattle.desk_gate.specs.declared.limits.TheConstants.{WHOLE_SHARE}
 use Rattle.desk_gate.specs.declared.counted.Counted.{Ghosts}
 use Rattle.desk_gate.specs.declared.gate.Gate.{Gate}
