@@ -19,3 +19,4 @@ pub use piece::Piece;
 pub use profile::Profile;
 pub use run::Run;
 pub use runs::{Runs, intersect};
+pub use stretch::Stretch;
