@@ -11,8 +11,6 @@ mod profile;
 mod run;
 mod runs;
 mod stretch;
-#[cfg(test)]
-mod tests;
 
 pub use memory::NoMemory;
 pub use piece::Piece;
