@@ -8,10 +8,6 @@
 mod answers;
 mod booking_rows;
 mod calendar_rows;
-#[cfg(test)]
-mod cases;
-#[cfg(test)]
-mod change_cases;
 mod change_copies;
 mod changes;
 mod copying;

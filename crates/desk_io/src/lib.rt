@@ -12,8 +12,6 @@ mod memory_sink;
 mod memory_source;
 mod std_sink;
 mod std_source;
-#[cfg(test)]
-mod tests;
 mod traits;
 
 pub use bytes::Bytes;

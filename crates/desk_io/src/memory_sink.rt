@@ -77,6 +77,7 @@ impl Sink for MemorySink {
         ensures whole { OnOk result (Appends (Some self.old.held) (Some self.new.held) piece.now) }
         ensures front { OnErr result (AppendsFront (Some self.old.held) (Some self.new.held) piece.now) }
         ensures rising { self.old.faults ≤ self.new.faults }
+        ensures no_fault { OnOk result (self.new.faults ≡ self.old.faults) }
         ensures cause { OnErr result (Rose self.old.faults self.new.faults) }
 
         // what this one does

@@ -1,10 +1,12 @@
 -- What pieces put on a minute: one piece, no piece, the pieces of two lists; and how much that can be.
-use Rattle.std.proofs.Common.{◌≡◌, ℕ, ◌<◌, ◌≤◌, true, false, leb, ltb, ◌&&◌, cond, List, [], ◌∷◌, ◌++◌, fold, ℤ, pos, ◌+ℤ◌, refl, ◌∙◌, arith}
+use Rattle.std.proofs.Common.{◌≡◌, ℕ, ◌<◌, ◌≤◌, true, false, leb, ltb, ◌&&◌, cond, List, [], ◌∷◌, ◌++◌, fold, length, get_or, ℤ, pos, ◌+ℤ◌, refl, ◌∙◌, arith, w64, FitsSigned}
+use Rattle.std.specs.Int.{int_wrap}
 use Rattle.std.specs.Int.RustNames.{unsigned_abs}
 use Rattle.std.proofs.lemmas.Int.{ints}
 use Rattle.std.proofs.lemmas.List.Sums.{sum_by-cons, fold-append}
 use Rattle.desk_spans.specs.declared.piece.Piece.{Piece}
 use Rattle.desk_spans.specs.Pieces.{share, sum_at, weight_of}
+use Rattle.desk_spans.proofs.Sizes.{wrapped_value}
 
 pub share_inside : (p : Piece) (m : ℕ) → p.from ≤ m → m < p.to → share p m ≡ p.value
 share_inside p m low high =
@@ -35,6 +37,21 @@ sum_at-cons p ps m = let first = sum_from m (pos 0 +ℤ share p m) ps in omega (
 
 pub sum_at-append : (ps qs : List Piece) (m : ℕ) → sum_at (ps ++ qs) m ≡ sum_at ps m +ℤ sum_at qs m
 sum_at-append ps qs m = fold-append (λ sum p. sum +ℤ share p m) (pos 0) ps qs ∙ sum_from m (sum_at ps m) qs
+
+-- what one piece puts on a minute fits where its value does
+pub share-fits : (p : Piece) (m : ℕ) → FitsSigned w64 p.value → FitsSigned w64 (share p m)
+share-fits p m fits =
+    elim (leb p.from m && ltb m p.to) as (λ b. FitsSigned w64 (cond b p.value (pos 0))) [ true ↦ fits | false ↦ omega arith ]
+
+-- the piece at the front, as code reads it
+abbrev pub first_piece : List Piece → Piece
+first_piece ps = get_or ps 0 (record { from = 0; to = 0; value = pos 0 })
+
+-- what a piece alone puts on a minute, as 64 bits hold it
+pub sum_at-alone : (ps : List Piece) (m : ℕ) → length ps ≡ 1 → FitsSigned w64 (first_piece ps).value → share (first_piece ps) m ≡ int_wrap w64 (sum_at ps m)
+sum_at-alone [] m one fits = absurd (omega arith)
+sum_at-alone (p ∷ q ∷ rest) m one fits = absurd (omega arith)
+sum_at-alone (p ∷ []) m one fits = wrapped_value (share p m) (share-fits p m fits)
 
 share-le : (p : Piece) (m : ℕ) → unsigned_abs (share p m) ≤ unsigned_abs p.value
 share-le p m =

@@ -11,11 +11,10 @@ mod profile;
 mod run;
 mod runs;
 mod stretch;
-#[cfg(test)]
-mod tests;
 
 pub use memory::NoMemory;
 pub use piece::Piece;
 pub use profile::Profile;
 pub use run::Run;
 pub use runs::{Runs, intersect};
+pub use stretch::Stretch;

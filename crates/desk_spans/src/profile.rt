@@ -1,10 +1,10 @@
 //! One signed value per minute of a window.
-ghost use Rattle.std.specs.Prelude.{◌≡◌, ◌≢◌, ◌⊎◌, ℕ, ◌+◌, ◌*◌, ◌^◌, ◌<◌, ◌≤◌, IfSome, IfNone, IfOk, OnOk, OnErr, ◌≤ℤ◌, ◌<ℤ◌, pos, ◌+ℤ◌, ◌*ℤ◌, FitsSigned};
-ghost use Rattle.std.specs.Int.{w64};
+ghost use Rattle.std.specs.Prelude.{◌≡◌, ◌≢◌, ℕ, ◌+◌, ◌*◌, ◌^◌, ◌<◌, ◌≤◌, IfSome, IfNone, IfOk, OnOk, OnErr, ◌≤ℤ◌, ◌<ℤ◌, pos, ◌+ℤ◌, ◌*ℤ◌, FitsSigned};
+ghost use Rattle.std.specs.Int.{w64, int_wrap};
 ghost use Rattle.std.specs.Int.RustNames.{unsigned_abs};
 ghost use Rattle.desk_spans.specs.Minutes.{EachMinute, SomeMinute};
 ghost use Rattle.desk_spans.specs.Timeline.{end_of, value_at, sum_on, IsRangeOf, IsBounded, value_limit};
-ghost use Rattle.desk_spans.specs.Pieces.{share, sum_at, weight_of};
+ghost use Rattle.desk_spans.specs.Pieces.{share, sum_at};
 ghost use Rattle.desk_spans.specs.Laid.{Fill, AreJoined, value_in};
 
 use crate::memory::NoMemory;
@@ -34,24 +34,27 @@ impl Model for Profile {
 
 impl Profile {
     /// At each minute of the window the sum of the values of the pieces that cover it. What of a piece lies outside of the
-    /// window counts for nothing. In time n log n, for n pieces.
+    /// window counts for nothing. The sums are to be within 10^14 either way; the pieces may be larger, and so may a sum of
+    /// some of them. In time n log n, for n pieces.
     pub fn build(alloc: Global, from: u32, to: u32, pieces: &[Piece]) -> Result<Profile, NoMemory>
         requires window { from < to }
-        requires bounds { weight_of pieces.now ≤ value_limit }
+        requires bounds { EachMinute from to (λ m. IsBounded (sum_at pieces.now m)) }
         ensures window_from { IfOk result (λ p. p.from ≡ from) }
         ensures window_end { IfOk result (λ p. end_of p ≡ to) }
         ensures sums { IfOk result (λ p. EachMinute from to (λ m. value_at p m ≡ sum_at pieces.now m)) }
     {
-        match pieces {
-            [] => Profile::level(alloc, from, to),
-            [piece] => Profile::of_piece(alloc, from, to, *piece),
-            _ => {
-                let (front, back) = pieces.split_at(pieces.len() / 2);
-                let front = Profile::build(alloc, from, to, front)?;
-                let back = Profile::build(alloc, from, to, back)?;
-                Profile::sum_of(alloc, &front, &back)
-            }
-        }
+        Profile::sums_of(alloc, from, to, pieces)
+    }
+
+    /// An equal profile, which shares nothing with this one.
+    pub fn copy(&self, alloc: Global) -> Result<Profile, NoMemory>
+        ensures { IfOk result (λ copy. copy ≡ self.now) }
+    {
+        Ok(Profile {
+            from: self.from,
+            to: self.to,
+            stretches: Vec::from_slice(alloc, &self.stretches)?,
+        })
     }
 
     /// Adds a value at each minute of a range. Want of memory leaves the profile as it was.
@@ -93,7 +96,20 @@ impl Profile {
         requires to { minute < end_of self.now }
         ensures { result ≡ value_at self.now minute }
     {
-        self.stretches_from(minute)[0].value
+        self.stretch_at(minute).value
+    }
+
+    /// The value at a minute, and the end of the minutes from there on that have it.
+    pub fn stretch_at(&self, minute: u32) -> Stretch
+        requires from { self.now.from ≤ minute }
+        requires to { minute < end_of self.now }
+        ensures value { result.value ≡ value_at self.now minute }
+        ensures later { minute < result.end }
+        ensures inside { result.end ≤ end_of self.now }
+        ensures same { EachMinute minute result.end (λ m. value_at self.now m ≡ value_at self.now minute) }
+        ensures changed { result.end < end_of self.now → value_at self.now result.end ≢ value_at self.now minute }
+    {
+        self.stretches_from(minute)[0]
     }
 
     /// The next minute of the window at which the value is another; `None` where there is none.
@@ -106,7 +122,7 @@ impl Profile {
         ensures changed { IfSome result (λ next. value_at self.now next ≢ value_at self.now minute) }
         ensures same { IfSome result (λ next. EachMinute minute next (λ m. value_at self.now m ≡ value_at self.now minute)) }
     {
-        let end = self.stretches_from(minute)[0].end;
+        let end = self.stretch_at(minute).end;
         if end < self.to() { Some(end) } else { None }
     }
 
@@ -180,8 +196,8 @@ impl Profile {
         &self.stretches[first..]
     }
 
-    // An empty window, with room for so many stretches.
-    fn begun_at(alloc: Global, from: u32, room: usize) -> Result<Profile, NoMemory>
+    /// An empty window that begins at a minute, with room for so many stretches of equal values.
+    pub fn begun_at(alloc: Global, from: u32, room: usize) -> Result<Profile, NoMemory>
         ensures from { IfOk result (λ p. p.from ≡ from) }
         ensures empty { IfOk result (λ p. end_of p ≡ from) }
     {
@@ -193,13 +209,15 @@ impl Profile {
         })
     }
 
-    // Lays a value on the minutes from the end of the window up to `to`, which is the end then.
-    fn lay(&mut self, to: u32, value: i64) -> Result<(), NoMemory>
+    /// Lays a value on the minutes from the end of the window up to `to`, which is the end then. Want of memory leaves the
+    /// profile as it was.
+    pub fn lay(&mut self, to: u32, value: i64) -> Result<(), NoMemory>
         requires { end_of self.old ≤ to }
         ensures from { self.new.from ≡ self.old.from }
         ensures end { OnOk result (end_of self.new ≡ to) }
         ensures before { OnOk result (EachMinute self.old.from (end_of self.old) (λ m. value_at self.new m ≡ value_at self.old m)) }
         ensures level { OnOk result (EachMinute (end_of self.old) to (λ m. value_at self.new m ≡ value)) }
+        ensures err { OnErr result (self.new ≡ self.old) }
     {
         if self.to() == to {
             return Ok(());
@@ -227,6 +245,7 @@ impl Profile {
         ensures from { IfOk result (λ p. p.from ≡ from) }
         ensures end { IfOk result (λ p. end_of p ≡ to) }
         ensures values { IfOk result (λ p. EachMinute from to (λ m. value_at p m ≡ share piece m)) }
+        ensures size { FitsSigned w64 piece.value }
     {
         let start = piece.from.max(from).min(to);
         let end = piece.to.max(start).min(to);
@@ -237,14 +256,34 @@ impl Profile {
         Ok(profile)
     }
 
-    // The sum of two profiles over one window, which fits wherever the second is not 0.
+    // At each minute the sum of the pieces, as 64 bits hold it: a sum on the way may go past them, since what it loses is
+    // made up for where the whole fits.
+    fn sums_of(alloc: Global, from: u32, to: u32, pieces: &[Piece]) -> Result<Profile, NoMemory>
+        requires { from ≤ to }
+        ensures from { IfOk result (λ p. p.from ≡ from) }
+        ensures end { IfOk result (λ p. end_of p ≡ to) }
+        ensures values { IfOk result (λ p. EachMinute from to (λ m. value_at p m ≡ int_wrap w64 (sum_at pieces.now m))) }
+    {
+        match pieces {
+            [] => Profile::level(alloc, from, to),
+            [piece] => Profile::of_piece(alloc, from, to, *piece),
+            _ => {
+                let (front, back) = pieces.split_at(pieces.len() / 2);
+                let front = Profile::sums_of(alloc, from, to, front)?;
+                let back = Profile::sums_of(alloc, from, to, back)?;
+                Profile::sum_of(alloc, &front, &back)
+            }
+        }
+    }
+
+    // The sum of two profiles over one window, as 64 bits hold it.
     fn sum_of(alloc: Global, a: &Profile, b: &Profile) -> Result<Profile, NoMemory>
         requires from { b.now.from ≡ a.now.from }
         requires end { end_of b.now ≡ end_of a.now }
-        requires bounds { EachMinute a.now.from (end_of a.now) (λ m. (value_at b.now m ≡ pos 0) ⊎ FitsSigned w64 (value_at a.now m +ℤ value_at b.now m)) }
         ensures from { IfOk result (λ p. p.from ≡ a.now.from) }
         ensures end { IfOk result (λ p. end_of p ≡ end_of a.now) }
-        ensures values { IfOk result (λ p. EachMinute a.now.from (end_of a.now) (λ m. value_at p m ≡ value_at a.now m +ℤ value_at b.now m)) }
+        ensures values { IfOk result (λ p. EachMinute a.now.from (end_of a.now) (λ m. value_at p m ≡ int_wrap w64 (value_at a.now m +ℤ value_at b.now m))) }
+        ensures whole { IfOk result (λ _. EachMinute a.now.from (end_of a.now) (λ m. value_at a.now m ≡ int_wrap w64 (value_at a.now m))) }
     {
         let mut left = a.stretches.as_slice();
         let mut right = b.stretches.as_slice();
@@ -253,7 +292,7 @@ impl Profile {
             let s = left[0];
             let t = right[0];
             let end = s.end.min(t.end);
-            sum.lay(end, s.value + t.value)?;
+            sum.lay(end, s.value.wrapping_add(t.value))?;
             left = behind(left, end);
             right = behind(right, end);
         }

@@ -11,8 +11,6 @@ mod digits;
 mod horizon;
 pub mod laws;
 mod moments;
-#[cfg(test)]
-mod tests;
 mod zones;
 
 pub use clocks::Local;

@@ -17,8 +17,6 @@ mod names;
 mod reading;
 mod responses;
 mod rules;
-#[cfg(test)]
-mod tests;
 mod writing;
 
 pub use framer::Framer;

@@ -1,9 +1,11 @@
-use Rattle.std.proofs.Common.{◌≡◌, ◌<◌, length, rules, arith, refl, ◌∙◌, FitsSigned, w64, inl, inr}
+use Rattle.std.proofs.Common.{◌≡◌, ◌<◌, ◌≤◌, length, rules, arith, refl, sym, ◌∙◌, FitsSigned, w64, inl, inr}
 use Rattle.std.proofs.lemmas.Bool.{cases_lt}
-use Rattle.std.proofs.lemmas.Int.{ints}
+use Rattle.std.proofs.lemmas.Int.{int_wrap_fits}
 use Rattle.desk_spans.specs.Timeline.{end_of}
-use Rattle.desk_spans.proofs.Walks.{stretch_at, walk_begins, walk_value, walk_end}
+use Rattle.desk_spans.proofs.Sizes.{laid_sum}
+use Rattle.desk_spans.proofs.Walks.{stretch_at, walk_begins, walk_value, walk_end, walk_done}
 use Rattle.desk_spans.proofs.profile.Profile.sum_of.Goals as goal
+use Rattle.desk_spans.proofs.profile.Profile.sum_of.Goals.{then-loop-left-test+else-not-is_empty, else-loop-left-test}
 
 pub loop-left-init : goal.loop-left-init
 loop-left-init c =
@@ -16,22 +18,8 @@ loop-left-init c =
       left = rw (begun, c.as_slice-left.ensures.value) left;
       right = rw (begun, c.as_slice-right.ensures.value, ← c.requires.from) right;
       sums = λ m low high. absurd (omega arith);
+      whole = λ m low high. absurd (omega arith);
     }
-
-pub overflow_add-s : goal.overflow_add-s
-overflow_add-s c =
-    let some_left : 0 < length c.loop-left.left.now = search rules in
-    let some_right : 0 < length c.loop-left.right.now = search rules in
-    let left = walk_end _ _ _ _ 0 some_left c.loop-left.invariant.left in
-    let right = walk_end _ _ _ _ 0 some_right c.loop-left.invariant.right in
-    let start = end_of c.loop-left.sum in
-    let s = walk_value _ _ _ _ 0 some_left c.loop-left.invariant.left start (omega arith) left.0 in
-    let t = walk_value _ _ _ _ 0 some_right c.loop-left.invariant.right start (omega arith) right.0 in
-    let fits : FitsSigned w64 (stretch_at c.loop-left.left.now 0).value = search rules in
-    elim (c.requires.bounds start (omega (arith, c.loop-left.invariant.left.begun)) (omega (arith, left))) [
-      | inl none ↦ omega (arith, ints, s, t, none, fits)
-      | inr bound ↦ omega (arith, ints, s, t, bound)
-    ]
 
 pub lay-requires : goal.lay-requires
 lay-requires c =
@@ -58,10 +46,26 @@ loop-left-preserved c =
             let laid = c.in_ok-lay.ensures.level m here (omega arith) in
             let s = walk_value _ _ _ _ 0 some_left c.loop-left.invariant.left m here (omega arith) in
             let t = walk_value _ _ _ _ 0 some_right c.loop-left.invariant.right m here (omega arith) in
-            let fits : FitsSigned w64 (stretch_at c.loop-left.left.now 0).value = search rules in
-            elim (c.requires.bounds m low (omega arith)) [
-              | inl none ↦ omega (arith, ints, laid, s, t, none, fits)
-              | inr bound ↦ omega (arith, ints, laid, s, t, bound)
-            ]
+            let fits_s : FitsSigned w64 (stretch_at c.loop-left.left.now 0).value = search rules in
+            let fits_t : FitsSigned w64 (stretch_at c.loop-left.right.now 0).value = search rules in
+            laid_sum _ _ _ _ _ fits_s fits_t s t laid
+      ];
+      whole = λ m low high. elim (cases_lt m (end_of c.loop-left.sum)) [
+        | inl before ↦ c.loop-left.invariant.whole m low before
+        | inr here ↦
+            let s = walk_value _ _ _ _ 0 some_left c.loop-left.invariant.left m here (omega arith) in
+            let fits_s : FitsSigned w64 (stretch_at c.loop-left.left.now 0).value = search rules in
+            rw s (sym (int_wrap_fits w64 _ fits_s))
       ];
     }
+
+pub returns-clause-whole : goal.returns-clause-whole
+returns-clause-whole c m low high =
+    elim c.loop-left-test.branch [
+      | then-loop-left-test+else-not-is_empty w ↦
+          let none : length c.loop-left.right.now ≤ 0 = search rules in
+          c.loop-left.invariant.whole m low (omega (arith, walk_done _ _ _ _ 0 none c.loop-left.invariant.right))
+      | else-loop-left-test w ↦
+          let none : length c.loop-left.left.now ≤ 0 = search rules in
+          c.loop-left.invariant.whole m low (omega (arith, walk_done _ _ _ _ 0 none c.loop-left.invariant.left))
+    ]

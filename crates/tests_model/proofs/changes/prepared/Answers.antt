@@ -2,7 +2,7 @@ use Rattle.std.proofs.Common.{sym, subst}
 use Rattle.desk_base.specs.Types.{Tables}
 use Rattle.desk_base.specs.Lookups.{KeysRise}
 use Rattle.desk_base.proofs.KeyRises.{rise-no_rows}
-use Rattle.desk_base.proofs.change_cases.prepared.Goals as goal
+use Rattle.tests_model.proofs.changes.prepared.Goals as goal
 
 pub prepare-requires : goal.prepare-requires
 prepare-requires c = subst (λ (t : Tables). KeysRise t) (sym c.empty.ensures) rise-no_rows

@@ -1,5 +1,5 @@
-//! Worked rows: the ends of the horizon, days that the calendar has and has not, texts off the grammar, and two zones.
-use crate::{Local, date_text, local, moment_text, read_date, read_moment, weekday};
+//! `desk_time`: the ends of the horizon, days that the calendar has and has not, texts off the grammar, and two zones.
+use desk_time::{Local, date_text, local, moment_text, read_date, read_moment, weekday};
 
 #[test]
 fn moments_have_their_texts(rt: HostRuntime) {

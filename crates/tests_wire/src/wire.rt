@@ -1,7 +1,7 @@
-//! What no clause says: the limits and the refusals by their bytes, requests cut into pieces, bodies by what their heads
-//! say, and the exact text of responses. Each public call is made once with ample memory.
-use crate::{Allow, BodyKind, Framer, HeadRule, Next, Response, WireLimit, response_bytes};
+//! `desk_wire`: the limits and the refusals by their bytes, requests cut into pieces, bodies by what their heads say, and the
+//! exact text of responses.
 use desk_io::Bytes;
+use desk_wire::{Allow, BodyKind, Framer, HeadRule, Next, Response, WireLimit, response_bytes};
 use std::alloc::Global;
 use std::test::Fail;
 

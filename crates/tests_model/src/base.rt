@@ -1,5 +1,5 @@
 //! What no clause says: that memory is found, and the orders at concrete values.
-use crate::{Duplicate, Found, Items, Minute, Name, Position, ResourceId, Tables};
+use desk_base::{Duplicate, Found, Items, Minute, Name, Position, ResourceId, Tables};
 use std::alloc::Global;
 use std::cmp::Ordering;
 
@@ -35,60 +35,61 @@ fn finds_memory(rt: HostRuntime) {
 /// Two positions, how they compare, and whether the first begins the second.
 type Case<'a> = ((u32, &'a [u32]), (u32, &'a [u32]), Ordering, bool);
 
+const ORDERS: [Case; 8] = [
+    (
+        (28_935_840, &[1]),
+        (28_935_840, &[1]),
+        Ordering::Equal,
+        true,
+    ),
+    (
+        (28_935_840, &[1]),
+        (28_935_840, &[1, 0]),
+        Ordering::Less,
+        true,
+    ),
+    (
+        (28_935_840, &[1, 0]),
+        (28_935_840, &[1]),
+        Ordering::Greater,
+        false,
+    ),
+    (
+        (28_935_840, &[9]),
+        (28_935_840, &[10]),
+        Ordering::Less,
+        false,
+    ),
+    (
+        (28_935_840, &[10]),
+        (28_935_840, &[0]),
+        Ordering::Less,
+        false,
+    ),
+    (
+        (28_935_840, &[0, 2]),
+        (28_935_840, &[1, 0, 0]),
+        Ordering::Greater,
+        false,
+    ),
+    (
+        (28_935_840, &[0]),
+        (28_935_900, &[1]),
+        Ordering::Less,
+        false,
+    ),
+    (
+        (28_935_840, &[1]),
+        (28_935_900, &[1, 2]),
+        Ordering::Less,
+        false,
+    ),
+];
+
 #[test]
 fn orders_by_start_then_pick_by_pick_with_the_left_out_last(rt: HostRuntime) {
     let alloc = rt.alloc();
-    let cases: [Case; 8] = [
-        (
-            (28_935_840, &[1]),
-            (28_935_840, &[1]),
-            Ordering::Equal,
-            true,
-        ),
-        (
-            (28_935_840, &[1]),
-            (28_935_840, &[1, 0]),
-            Ordering::Less,
-            true,
-        ),
-        (
-            (28_935_840, &[1, 0]),
-            (28_935_840, &[1]),
-            Ordering::Greater,
-            false,
-        ),
-        (
-            (28_935_840, &[9]),
-            (28_935_840, &[10]),
-            Ordering::Less,
-            false,
-        ),
-        (
-            (28_935_840, &[10]),
-            (28_935_840, &[0]),
-            Ordering::Less,
-            false,
-        ),
-        (
-            (28_935_840, &[0, 2]),
-            (28_935_840, &[1, 0, 0]),
-            Ordering::Greater,
-            false,
-        ),
-        (
-            (28_935_840, &[0]),
-            (28_935_900, &[1]),
-            Ordering::Less,
-            false,
-        ),
-        (
-            (28_935_840, &[1]),
-            (28_935_900, &[1, 2]),
-            Ordering::Less,
-            false,
-        ),
-    ];
-    for (i, (first, second, order, begins)) in cases.iter().enumerate() {
+    for (i, (first, second, order, begins)) in ORDERS.iter().enumerate() {
         let first = position(alloc, first.0, first.1).expect(&rt, "a position");
         let second = position(alloc, second.0, second.1).expect(&rt, "a position");
         assert!(rt; first.cmp(&second) == *order, "case {i}");

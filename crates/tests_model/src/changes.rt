@@ -1,5 +1,5 @@
 //! What no clause says of changes: that memory is found, and a change of concrete rows.
-use crate::{
+use desk_base::{
     Act, AnyRow, Call, CallNumber, CallerId, Change, Command, Duplicate, Items, Key, Name,
     NamedRow, NoMemory, Prepared, Table, Tables,
 };

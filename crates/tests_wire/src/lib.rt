@@ -1,0 +1,8 @@
+//! The tests of the crates that carry bytes, through their public calls alone: exact bytes in and out, and that each call
+//! succeeds where memory is ample. There is a module for each crate that is tested.
+#![tactic(auto)]
+
+#[cfg(test)]
+mod io;
+#[cfg(test)]
+mod wire;
