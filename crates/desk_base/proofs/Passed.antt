@@ -14,16 +14,21 @@ due_pending : (leaves : ℕ) (per : Option ℕ) (point : ResumePoint) (ps : List
 due_pending leaves None point ps p i = i
 due_pending leaves (Some per) point ps p i = (in-filter _ p ps i).0
 
+-- where something is due and may be passed, the first of it is
+some_first : (leaves full many : ℕ) (p : Position) (rest : List Position) → 1 ≤ many → (more : List Position) × (passed_of leaves (suc full) many (p ∷ rest) ≡ p ∷ more)
+some_first leaves full zero p rest h = absurd (omega arith)
+some_first leaves full (suc many) p rest h = (passed_of leaves (if is_full leaves p then full else suc full) many rest, refl)
+
 by_due : (t : Tables) (g : GroupRow) (o : Options) (point : ResumePoint) (full : ℕ) (page : Page) (ps due : List Position) → ArePending t g o point.after ps → due_of (length g.leaves) o.per point ps ≡ due
     → page ≡ page_of (length g.leaves) o.per point (suc full) ps → page.end ≡ false → PassesOne t g o point page
 by_due t g o point full page ps [] pending is page_is not_end =
     absurd (false≢true (sym not_end ∙ ap (λ (p : Page). p.end) page_is ∙ ap (λ l. length (passed_of (length g.leaves) (suc full) passed_limit l) == length l) is))
 by_due t g o point full page ps (p ∷ rest) pending is page_is not_end =
     let here = passed_of (length g.leaves) (suc full) passed_limit (p ∷ rest) in
-    let more = passed_of (length g.leaves) (if is_full (length g.leaves) p then full else suc full) 4095 rest in
+    let first = some_first (length g.leaves) full passed_limit p rest (omega arith) in
     let split = passed_prefix (length g.leaves) (suc full) passed_limit (p ∷ rest) in
-    let last = last_of point.after p more in
-    let there = subst (IsIn last.1) (sym last.2) (in_right last.1 last.0 (last.1 ∷ []) (inl refl)) in
+    let last = last_of point.after p first.0 in
+    let there = subst (IsIn last.1) (sym (first.1 ∙ last.2)) (in_right last.1 last.0 (last.1 ∷ []) (inl refl)) in
     let inside = subst (IsIn last.1) (sym is) (subst (IsIn last.1) (sym split.1) (in_left last.1 here split.0 there)) in
     let live = pending.sound last.1 (contains_from_in ps last.1 (due_pending (length g.leaves) o.per point ps last.1 inside)) in
     record {
@@ -33,7 +38,7 @@ by_due t g o point full page ps (p ∷ rest) pending is page_is not_end =
       pending = ps;
       are_pending = pending;
       due = contains_from_in (due_of (length g.leaves) o.per point ps) last.1 inside;
-      next = ap (λ (q : Page). q.next) page_is ∙ ap (λ l. last_or point.after (passed_of (length g.leaves) (suc full) passed_limit l)) is ∙ last.3;
+      next = ap (λ (q : Page). q.next) page_is ∙ ap (λ l. last_or point.after (passed_of (length g.leaves) (suc full) passed_limit l)) is ∙ ap (last_or point.after) first.1 ∙ last.3;
     }
 
 pub page_passes : (t : Tables) (g : GroupRow) (o : Options) (point : ResumePoint) (limit : ℕ) (page : Page) → 1 ≤ limit → IsPage t g o point limit page → page.end ≡ false → PassesOne t g o point page

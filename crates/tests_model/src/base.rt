@@ -35,7 +35,7 @@ fn finds_memory(rt: HostRuntime) {
 /// Two positions, how they compare, and whether the first begins the second.
 type Case<'a> = ((u32, &'a [u32]), (u32, &'a [u32]), Ordering, bool);
 
-const ORDERS: [Case; 8] = [
+const ORDERS: [Case<'static>; 8] = [
     (
         (28_935_840, &[1]),
         (28_935_840, &[1]),
