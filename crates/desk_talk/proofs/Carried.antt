@@ -1,5 +1,5 @@
 -- A session over one kind of state is one over another, where each turn is.
-use Rattle.std.proofs.Common.{◌≡◌, ℕ, inl, inr, List, [], ◌∷◌, Option, ap, subst}
+use Rattle.std.proofs.Common.{ℕ, inl, inr, List, [], ◌∷◌, Option, ap}
 use Rattle.desk_wire.specs.Requests.{End}
 use Rattle.desk_wire.specs.declared.rules.Request.{Request}
 use Rattle.desk_wire.specs.declared.responses.Response.{Response}
@@ -22,7 +22,6 @@ pub record Carries {S U : Type 0} (f : S → U) (T : S → Request → Response 
 
 module _ {S U : Type 0} (f : S → U) (T : S → Request → Response → S → Type 0) (T' : U → Request → Response → U → Type 0)
     (K : S → Request → Stop → S → Type 0) (K' : U → Request → Stop → U → Type 0) (sim : Carries f T T' K K') where
-
   carried_answer : (got : List ℕ) (xs : List Exchange) (border : End) (close : List ℕ) (s t : S) (sent : List ℕ)
       → Answered got xs border close s t sent → Answered got xs border close (f s) (f t) sent
   carried_answer got xs border close s t sent a = record { requests = a.requests; stays = ap f a.stays; sends = a.sends }

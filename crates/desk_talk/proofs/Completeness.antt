@@ -1,5 +1,5 @@
 -- An input of whole requests is answered to its end.
-use Rattle.std.proofs.Common.{◌≡◌, ℕ, List, Option, Some, IfSome, inl, inr, refl, subst, length, ◌<◌, ◌≤◌, ◌^◌, None, ap, arith, length-append}
+use Rattle.std.proofs.Common.{◌≡◌, ℕ, List, Option, Some, IfSome, inl, inr, refl, subst, length, ◌<◌, ◌≤◌, None, ap, arith, length-append}
 use Rattle.std.specs.Io.KnownBytes.{Consumes}
 use Rattle.desk_wire.specs.Requests.{Requests, End, clean, cut, bad, too_large}
 use Rattle.desk_wire.specs.declared.rules.Request.{Request}

@@ -135,7 +135,6 @@ turn_stands Stops h'' u q close after (replied.Stopped stop.Spent) a w c x e = a
 
 module _ {S : Type 0} (Turn : S → Request → Response → S → Type 0) (Stops : S → Request → Stop → S → Type 0) (Knows : List Exchange → Type 0)
     (s : S) (learns : (xs : List Exchange) (t : S) → Turns Turn s xs t → Knows xs) {l l' h h' : Option (List ℕ)} (h'' : Option (List ℕ)) where
-
   -- a conversation that ended so, after which this was done and sent last
   pub ended : {t : S} {rest : List ℕ} {n : ℕ} (u : S) (how : SessionEnd) (piece : List ℕ) → (a : Stands Turn l l' h h' s t rest n) → n < counted_limit → Appends h' h'' piece
       → IsEnding Turn Stops a.got a.exchanges t u piece how → IfSome l (λ all. IfSome (border_of how) (λ border. Requests all (requests_of a.exchanges) border))

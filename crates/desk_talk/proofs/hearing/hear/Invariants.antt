@@ -1,4 +1,4 @@
-use Rattle.std.proofs.Common.{◌≡◌, ◌<◌, ◌≤◌, ◌-◌}
+use Rattle.std.proofs.Common.{◌<◌, ◌≤◌, ◌-◌}
 use Rattle.desk_talk.specs.Hearing.{counted_limit}
 use Rattle.desk_talk.proofs.HearingSteps.{Fills, IsUntouched}
 use Rattle.desk_talk.proofs.hearing.hear.Given as goal
