@@ -4,6 +4,7 @@
 ghost use Rattle.std.specs.Prelude.{◌≡◌, ◌≢◌, [], map, drop, IfOk, IfErr, IsErr, IsOkAnd, string_bytes};
 ghost use Rattle.std.specs.Vec.Iter.{into_iter_items};
 ghost use Rattle.std.specs.IoError.{error_kind};
+ghost use Rattle.std.specs.Process.{exit_status};
 ghost use Rattle.std.specs.declared.io.ErrorKind.TheVariants.{OutOfMemory};
 
 use desk_batch::{Word, run};
@@ -46,11 +47,18 @@ fn words_of(alloc: Global, given: io::Result<Args>) -> Result<Vec<Word>, NoMemor
     }
 }
 
+/// What the system is told of a status: the status.
+fn exit_code(status: u8) -> ExitCode
+    ensures { exit_status result ≡ status }
+{
+    ExitCode::from(status)
+}
+
 fn main(rt: HostRuntime) -> ExitCode {
     let Ok(words) = words_of(rt.alloc(), env::args(&rt)) else {
-        return ExitCode::from(NO_MEMORY);
+        return exit_code(NO_MEMORY);
     };
     let mut source = StdSource::new(rt.stdin());
     let mut sink = StdSink::new(rt.stdout());
-    ExitCode::from(run(rt.alloc(), words.as_slice(), &mut source, &mut sink))
+    exit_code(run(rt.alloc(), words.as_slice(), &mut source, &mut sink))
 }

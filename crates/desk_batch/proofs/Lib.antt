@@ -6,10 +6,8 @@ mod ReadingLemmas
 mod Served
 mod TurnLemmas
 -- Conversations.
-pub mod SessionSteps
-pub mod Carried
 pub mod CarriedTurns
-pub mod Completeness
+mod Statuses
 pub mod EmptySound
 pub mod Revisions
 pub mod ShownLemmas

@@ -1,5 +1,5 @@
 -- The pages that a conversation shows of one search over one revision join.
-use Rattle.std.proofs.Common.{◌≡◌, ◌==◌, ℕ, ◌≤◌, Bool, true, false, ◌&&◌, nat_le, List, [], ◌∷◌, map, Option, Some, None, inl, inr, refl, sym, ap, ◌∙◌, subst, arith, Contains}
+use Rattle.std.proofs.Common.{◌≡◌, ◌==◌, ℕ, ◌≤◌, Bool, true, false, ◌&&◌, nat_le, List, [], ◌∷◌, map, length, Option, Some, None, inl, inr, refl, sym, ap, ◌∙◌, subst, arith, Contains}
 use Rattle.std.proofs.lemmas.Bool.Decides.{nat_tests}
 use Rattle.std.specs.Prelude.{find, if◌then◌else◌}
 use Rattle.std.specs.Option.{option_or}
@@ -10,7 +10,10 @@ use Rattle.desk_base.specs.declared.searches.Position.{Position}
 use Rattle.desk_base.specs.declared.searches.Options.{Options}
 use Rattle.desk_base.specs.Groups.{group_of}
 use Rattle.desk_base.specs.Limits.{page_limit}
-use Rattle.desk_base.specs.Page.{IsPage, AreResumed}
+use Rattle.desk_base.specs.Listing.{IsSoundGroup, IsListing}
+use Rattle.desk_base.specs.Page.{IsPage, AreResumed, Joins}
+use Rattle.desk_base.specs.Positions.{rows_among}
+use Rattle.desk_base.specs.declared.searches.Found.{Found}
 use Rattle.desk_base.specs.Sound.{IsSound}
 use Rattle.desk_base.specs.Steps.{IsStep, IsTurn, IsAnswer, place_of, refused_limit, refused_page}
 use Rattle.desk_base.specs.declared.changes.Entry.{Entry}
@@ -25,7 +28,8 @@ use Rattle.desk_base.specs.declared.answers.Outcome.{Outcome}
 use Rattle.desk_base.specs.declared.answers.Outcome.TheVariants.{Done, NoMemory}
 use Rattle.desk_base.specs.declared.answers.Reply.TheVariants.{Rows}
 use Rattle.desk_base.proofs.Members.{contains_from_in}
-use Rattle.desk_base.proofs.Pages.{pages_join}
+use Rattle.desk_base.proofs.Pages.{full_rows, lives_from, pages_join}
+use Rattle.desk_base.proofs.Passed.{page_passes}
 use Rattle.desk_base.proofs.Shapes.{sound_group}
 use Rattle.desk_base.proofs.Tests.{find_cases, and_left}
 use Rattle.desk_core.specs.Books.{BookState}
@@ -35,10 +39,10 @@ use Rattle.desk_batch.specs.declared.requests.Routed.{Routed}
 use Rattle.desk_batch.specs.declared.requests.Routed.TheVariants.{Command, Refused}
 use Rattle.desk_batch.specs.declared.words.Store.{Store}
 use Rattle.desk_batch.specs.Exchanges.{Exchanged, TurnOf}
-use Rattle.desk_batch.specs.Shown.{Taken, Told, Search, exchange_of, IsTold, AreTold, HasStood, ShowsPage, ShowsTo, ShowPages}
+use Rattle.desk_batch.specs.Shown.{Taken, Told, Search, exchange_of, IsTold, AreTold, HasStood, ShowsPage, ShowsTo, ShowPages, ArePassing}
 use Rattle.desk_batch.specs.Requesting.{Reads}
 use Rattle.desk_batch.specs.Runs.{JoinsPages}
-use Rattle.desk_batch.specs.Sessions.{Exchange, Turns}
+use Rattle.desk_talk.specs.Sessions.{Exchange, Turns}
 use Rattle.desk_batch.specs.Turns.{opened_over, OwnTurn}
 use Rattle.desk_batch.specs.Words.{tables_of}
 use Rattle.desk_batch.proofs.EmptySound.{store_sound}
@@ -124,16 +128,32 @@ contains_group id groups g e =
       | inr (y, i, p, f) ↦ let h : Some y ≡ Some g = sym f ∙ e in let k : y ≡ g = cc in contains_from_in groups g (rw (← k) i)
     ]
 
-joins_over : (t : Tables) → IsSound t → (xs : List Exchange) (last : BookState) → Turns (Exchanged OwnTurn) (opened_over t) xs last → JoinsPages t xs
+-- pages that resume one another go on, and begin a listing
+
+passing : (t : Tables) (g : GroupRow) (o : Options) (after : Option Position) (pages : List Page) → AreResumed t g o after pages → ArePassing t g o after pages
+passing t g o after [] resumed = tt
+passing t g o after (page ∷ pages) resumed =
+    (page_passes t g o after resumed.0.0 page resumed.0.1 resumed.0.2, passing t g o page.next pages resumed.1)
+
+listing_of : (t : Tables) (g : GroupRow) (o : Options) (limit : ℕ) (page : Page) → IsSoundGroup g → IsPage t g o None limit page → (listing : List Found) × IsListing t g o listing
+listing_of t g o limit page sound is = (rows_among (length g.leaves) is.0, full_rows t g o is.0 sound (lives_from t g o is.0 is.1))
+
+joined : (t : Tables) (g : GroupRow) (o : Options) (page : Page) (pages : List Page) → IsSoundGroup g → AreResumed t g o None (page ∷ pages)
+    → ArePassing t g o None (page ∷ pages) × ((listing : List Found) × IsListing t g o listing × Joins t g o (page ∷ pages) listing)
+joined t g o page pages sound resumed =
+    let listing = listing_of t g o resumed.0.0 page sound resumed.0.2 in
+    (passing t g o None (page ∷ pages) resumed, (listing.0, listing.1, pages_join t g o (page ∷ pages) listing.0 sound listing.1 resumed))
+
+pub joins_over : (t : Tables) → IsSound t → (xs : List Exchange) (last : BookState) → Turns (Exchanged OwnTurn) (opened_over t) xs last → JoinsPages t xs
 joins_over t sound xs last h =
     let told = told_of (opened_over t) xs last h in (
       told.0,
       told.1,
       told.2,
-      λ b search g listing pages stood there is shows.
-          pages_join b.tables g search.options pages listing
-          (sound_group b.tables g (sound_stood (opened_over t) told.0 b sound told.2 stood) (contains_group search.group b.tables.groups g there)) is
-          (resumed b.tables search g there (opened_over t) None told.0 pages told.2 shows (λ c at. same_tables (opened_over t) told.0 c b told.2 at stood)),
+      λ b search g page pages stood there shows.
+          joined b.tables g search.options page pages
+          (sound_group b.tables g (sound_stood (opened_over t) told.0 b sound told.2 stood) (contains_group search.group b.tables.groups g there))
+          (resumed b.tables search g there (opened_over t) None told.0 (page ∷ pages) told.2 shows (λ c at. same_tables (opened_over t) told.0 c b told.2 at stood)),
     )
 
 pub joins_pages : (store : Store) (xs : List Exchange) (last : BookState) → Turns (Exchanged OwnTurn) (opened_over (tables_of store)) xs last → JoinsPages (tables_of store) xs

@@ -6,8 +6,8 @@ use Rattle.desk_wire.specs.declared.rules.Request.{Request}
 use Rattle.desk_wire.specs.declared.responses.Response.{Response}
 use Rattle.desk_batch.specs.declared.requests.Routed.{Routed}
 use Rattle.desk_batch.specs.declared.requests.Routed.TheVariants.{Command, Refused}
-use Rattle.desk_batch.specs.declared.conversation.ends.Stop.{Stop}
-use Rattle.desk_batch.specs.declared.conversation.ends.Stop.TheVariants as stop
+use Rattle.desk_talk.specs.declared.ends.Stop.{Stop}
+use Rattle.desk_talk.specs.declared.ends.Stop.TheVariants as stop
 use Rattle.desk_batch.specs.Requesting.{Reads}
 use Rattle.desk_batch.specs.Replies.{answer_response, refusal_response}
 

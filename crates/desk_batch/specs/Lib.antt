@@ -6,10 +6,5 @@ pub mod RequestReading
 pub mod Replies
 pub mod Turns
 pub mod Exchanges
-pub mod Ends
-pub mod Complete
-pub mod Hearing
-pub mod Rounds
-pub mod Sessions
 pub mod Shown
 pub mod Runs

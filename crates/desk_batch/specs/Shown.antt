@@ -1,5 +1,5 @@
 -- The pages of a search among the turns of a conversation.
-use Rattle.std.specs.Prelude.{◌≡◌, ℕ, ◌⊎◌, Bool, List, [], ◌∷◌, Option, Some, None, ⊤}
+use Rattle.std.specs.Prelude.{◌≡◌, ℕ, ◌⊎◌, Bool, false, List, [], ◌∷◌, Option, Some, None, ⊤}
 use Rattle.desk_base.specs.declared.group_rows.GroupRow.{GroupRow}
 use Rattle.desk_base.specs.declared.searches.Cursor.{Cursor}
 use Rattle.desk_base.specs.declared.searches.Found.{Found}
@@ -13,8 +13,9 @@ use Rattle.desk_base.specs.declared.answers.Query.TheVariants.{Rows as RowsOf}
 use Rattle.desk_base.specs.declared.answers.Outcome.TheVariants.{Done}
 use Rattle.desk_base.specs.declared.answers.Reply.TheVariants.{Rows}
 use Rattle.desk_base.specs.Groups.{group_of}
-use Rattle.desk_base.specs.Listing.{IsListing}
-use Rattle.desk_base.specs.Page.{Joins}
+use Rattle.desk_base.specs.declared.tables.Tables.{Tables}
+use Rattle.desk_base.specs.Listing.{IsLive, IsListing}
+use Rattle.desk_base.specs.Page.{IsAfter, Joins}
 use Rattle.desk_base.specs.Steps.{place_of}
 use Rattle.desk_core.specs.Books.{BookState}
 use Rattle.desk_wire.specs.declared.rules.Request.{Request}
@@ -23,7 +24,7 @@ use Rattle.desk_batch.specs.declared.requests.Routed.TheVariants.{Command, Refus
 use Rattle.desk_batch.specs.declared.requests.WebRefusal.{WebRefusal}
 use Rattle.desk_batch.specs.Requesting.{Reads}
 use Rattle.desk_batch.specs.Replies.{answer_response, refusal_response}
-use Rattle.desk_batch.specs.Sessions.{Exchange}
+use Rattle.desk_talk.specs.Sessions.{Exchange}
 use Rattle.desk_batch.specs.Turns.{OwnTurn}
 
 -- a command that had a turn, and its answer
@@ -84,10 +85,17 @@ ShowPages search revision after [] (page ∷ pages) = ⊥
 ShowPages search revision after (x ∷ xs) (page ∷ pages) =
     (ShowsTo search revision after page x.turn × ShowPages search revision page.next xs pages) ⊎ ShowPages search revision after xs (page ∷ pages)
 
--- whatever pages of a search they show over the revision of a book that has stood, from the beginning of the search on, are together the first rows of its
--- listing over the tables of that book, and all of them where the last page is at the end
+-- each page that is not at its end has passed a live position after the place where it began, and shows the last of those as the next place
+abbrev pub ArePassing : Tables → GroupRow → Options → Option Position → List Page → Type 0
+ArePassing t g o after [] = ⊤
+ArePassing t g o after (page ∷ pages) =
+    (page.end ≡ false → (p : Position) × IsLive t g o p × IsAfter after p × (page.next ≡ Some p)) × ArePassing t g o page.next pages
+
+-- whatever pages of a search they show over the revision of a book that has stood, from the beginning of the search on, there is a listing over the
+-- tables of that book whose first rows they are together, and all of them where the last page is at the end; and each page goes on
 abbrev pub PagesJoin : BookState → List Told → Type 0
 PagesJoin s xs =
-    (b : BookState) (search : Search) (g : GroupRow) (listing : List Found) (pages : List Page)
-    → HasStood s xs b → group_of b.tables search.group ≡ Some g → IsListing b.tables g search.options listing
-    → ShowPages search b.tables.revision None xs pages → Joins b.tables g search.options pages listing
+    (b : BookState) (search : Search) (g : GroupRow) (page : Page) (pages : List Page)
+    → HasStood s xs b → group_of b.tables search.group ≡ Some g → ShowPages search b.tables.revision None xs (page ∷ pages)
+    → ArePassing b.tables g search.options None (page ∷ pages)
+    × ((listing : List Found) × IsListing b.tables g search.options listing × Joins b.tables g search.options (page ∷ pages) listing)

@@ -1,13 +1,10 @@
 //! `desk batch`: one connection, served alone, from the bytes of a source to the bytes of a sink.
 //!
-//! `run` is the top call. Below it stand public modules: `requests` reads what is asked, `turns` takes it to the book, `replies`
-//! writes the answer, and `conversation` is the engine that holds a connection, for whoever takes the turns.
+//! `run` is the top call. Below it stand public modules: `requests` reads what is asked, `turns` takes it to the book, and `replies`
+//! writes the answer. The conversation itself is held by `desk_talk`.
 #![tactic(auto)]
 
 mod bodies;
-#[cfg(test)]
-mod cases;
-pub mod conversation;
 pub mod laws;
 mod paging;
 mod program;

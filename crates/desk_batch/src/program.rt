@@ -3,15 +3,14 @@ ghost use Rattle.std.specs.Prelude.{◌≡◌, ◌⊎◌, ◌<◌, ◌≤◌, �
 ghost use Rattle.desk_io.specs.Counts.{Rose};
 ghost use Rattle.desk_wire.specs.Requests.{Requests, clean};
 ghost use Rattle.desk_wire.specs.declared.rules.Request.{Request};
-ghost use Rattle.desk_batch.specs.Ends.{status_of};
 ghost use Rattle.desk_batch.specs.Exchanges.{Exchanged, IsStopped};
-ghost use Rattle.desk_batch.specs.Runs.{HoldsOver, JoinsPages, SendsUsage};
-ghost use Rattle.desk_batch.specs.Sessions.{Exchange, Session, Turns};
+ghost use Rattle.desk_base.specs.Sound.{IsSound};
+ghost use Rattle.desk_batch.specs.Runs.{status_of, HoldsOver, JoinsPages, SendsUsage};
+ghost use Rattle.desk_talk.specs.Sessions.{Session};
 ghost use Rattle.desk_batch.specs.Turns.{opened_over, OwnTurn, NeverSpent};
 ghost use Rattle.desk_batch.specs.Words.{words_for, tables_of, IsCommand};
-ghost use Rattle.desk_core.specs.Books.{BookState};
 
-use crate::conversation::{SessionEnd, converse};
+use desk_talk::{SessionEnd, converse};
 use crate::turns::{Alone, Serving};
 use crate::words::{Store, Word, store_of, usage};
 use desk_base::{NoMemory, Tables};
@@ -66,14 +65,16 @@ fn open(alloc: Global, store: Store) -> Result<Book, NoMemory>
     Ok(Book::over(alloc, tables))
 }
 
-/// Serves the source as one connection over a book.
+/// Serves the source as one connection over a book that was just opened.
 fn serve<S: Source, W: Sink>(
     alloc: Global,
     source: &mut S,
     sink: &mut W,
     book: Book,
 ) -> (Book, SessionEnd)
-    ensures session { Session (Exchanged OwnTurn) (IsStopped OwnTurn NeverSpent) (S.left source.old) (S.left source.new) (W.held sink.old) (W.held sink.new) book result.0 result.1 }
+    requires opened { book ≡ opened_over book.opened }
+    requires sound { IsSound book.opened }
+    ensures session { Session (Exchanged OwnTurn) (IsStopped OwnTurn NeverSpent) (JoinsPages book.opened) (S.left source.old) (S.left source.new) (W.held sink.old) (W.held sink.new) book result.0 result.1 }
     ensures read_fault { result.1 ≡ SessionEnd.ReadFault → Rose (S.fault_count source.old) (S.fault_count source.new) }
     ensures write_fault { result.1 ≡ SessionEnd.WriteFault → Rose (W.fault_count sink.old) (W.fault_count sink.new) }
     ensures source { S.fault_count source.old ≤ S.fault_count source.new }
@@ -114,12 +115,10 @@ fn batch<S: Source, W: Sink>(alloc: Global, store: Store, source: &mut S, sink: 
 /// 6: the source failed. 7: the sink failed. 10: memory was not found.
 pub fn run<S: Source, W: Sink>(alloc: Global, words: &[Word], source: &mut S, sink: &mut W) -> u8
     // With the words of a store: the requests that were taken, a turn for each, from a book over the tables of the store on,
-    // and the bytes that were sent, by status.
+    // and the bytes that were sent, by status. Among the responses that were sent, the pages of one search over one revision, each
+    // resumed from the last, are together the first rows of the listing over the tables of that revision, each once and in
+    // order, and all of them where the last says that it is at the end.
     ensures conversation { (store : Store) → words.now ≡ words_for store → HoldsOver (tables_of store) (S.left source.old) (S.left source.new) (W.held sink.old) (W.held sink.new) result }
-
-    // The pages of one search over one revision in it, each resumed from the last, are together the first rows of the listing
-    // over the tables of that revision, each once and in order, and all of them where the last says that it is at the end.
-    ensures pages { (store : Store) (xs : List Exchange) (last : BookState) → Turns (Exchanged OwnTurn) (opened_over (tables_of store)) xs last → JoinsPages (tables_of store) xs }
 
     // With other words: the usage line, and the source is not read.
     ensures usage { ¬ (IsCommand words.now) → SendsUsage (W.held sink.old) (W.held sink.new) result }

@@ -1,17 +1,19 @@
 //! Turns over a book: a request that reads as a command has one, and every other its refusal.
-ghost use Rattle.std.specs.Prelude.{◌≡◌, IfOk, IfErr, IfSome, IfNone, ⊤};
+ghost use Rattle.std.specs.Prelude.{◌≡◌, List, IfOk, IfErr, IfSome, IfNone, ⊤};
 ghost use Rattle.desk_wire.specs.declared.rules.Request.{Request};
 ghost use Rattle.desk_wire.specs.declared.responses.Response.{Response};
 ghost use Rattle.desk_base.specs.declared.answers.Answer.{Answer};
 ghost use Rattle.desk_base.specs.declared.answers.Command.{Command};
 ghost use Rattle.desk_core.specs.Built.{IsBuilt};
-ghost use Rattle.desk_batch.specs.declared.conversation.ends.Stop.{Stop};
+ghost use Rattle.desk_talk.specs.declared.ends.Stop.{Stop};
+ghost use Rattle.desk_talk.specs.Sessions.{Exchange};
 ghost use Rattle.desk_batch.specs.Exchanges.{Exchanged, IsResponse, IsStopped};
 ghost use Rattle.desk_batch.specs.Requesting.{Reads};
+ghost use Rattle.desk_batch.specs.Runs.{JoinsPages};
 ghost use Rattle.desk_batch.specs.Turns.{OwnTurn, NeverSpent};
 ghost use Rattle.desk_batch.specs.Replies.{answer_response, refusal_response};
 
-use crate::conversation::{Replier, Stop};
+use desk_talk::{Replier, Stop};
 use crate::replies::{answer_response, refusal_response};
 use crate::requests::{Routed, WebRefusal, read_request};
 use desk_base::{Answer, Command};
@@ -30,6 +32,9 @@ pub trait Taker: Sized {
 
     // what each turn asks and keeps
     ghost ready: { Self → Type 0 };
+
+    // what is known of the exchanges of a conversation that begins in this state
+    ghost knows: { Self → List Exchange → Type 0 };
 
     /// Takes a turn for a command. `None` says that no turn can be drawn any more.
     fn take_turn(self, alloc: Global, command: &Command) -> (Self, Option<Answer>)
@@ -68,6 +73,8 @@ impl Taker for Alone {
     ghost spent = { λ s t. NeverSpent s.book t.book };
 
     ghost ready = { λ s. ⊤ };
+
+    ghost knows = { λ s exchanges. JoinsPages s.book.opened exchanges };
 
     fn take_turn(self, alloc: Global, command: &Command) -> (Self, Option<Answer>) {
         let Alone { book } = self;
@@ -157,6 +164,8 @@ impl<T: Taker> Replier for Serving<T> {
     ghost stops = { λ s q why t. IsStopped T.turn T.spent s.taker q why t.taker };
 
     ghost ready = { λ s. T.ready s.taker };
+
+    ghost knows = { λ s exchanges. T.knows s.taker exchanges };
 
     fn reply(self, alloc: Global, request: &Request) -> (Self, Result<Response, Stop>) {
         let Serving { taker } = self;
