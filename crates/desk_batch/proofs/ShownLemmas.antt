@@ -1,24 +1,24 @@
 -- The pages that a conversation shows of one search over one revision join.
 use Rattle.std.proofs.Common.{◌≡◌, ◌==◌, ℕ, ◌≤◌, Bool, true, false, ◌&&◌, nat_le, List, [], ◌∷◌, map, length, Option, Some, None, inl, inr, refl, sym, ap, ◌∙◌, subst, arith, Contains}
 use Rattle.std.proofs.lemmas.Bool.Decides.{nat_tests}
-use Rattle.std.specs.Prelude.{find, if◌then◌else◌}
+use Rattle.std.specs.Prelude.{find, if◌then◌else◌, MatchOption}
 use Rattle.std.specs.Option.{option_or}
 use Rattle.desk_base.specs.declared.tables.Tables.{Tables}
 use Rattle.desk_base.specs.declared.group_rows.GroupRow.{GroupRow}
 use Rattle.desk_base.specs.declared.searches.Page.{Page}
-use Rattle.desk_base.specs.declared.searches.Position.{Position}
 use Rattle.desk_base.specs.declared.searches.Options.{Options}
 use Rattle.desk_base.specs.Groups.{group_of}
 use Rattle.desk_base.specs.Limits.{page_limit}
-use Rattle.desk_base.specs.Listing.{IsSoundGroup, IsListing}
-use Rattle.desk_base.specs.Page.{IsPage, AreResumed, Joins}
+use Rattle.desk_base.specs.Fields.{is_within_range}
+use Rattle.desk_base.specs.Listing.{IsSoundGroup, IsListing, shown_rows}
+use Rattle.desk_base.specs.Page.{ResumePoint, beginning, next_point, IsAskable, IsPage, AreResumed, Joins}
 use Rattle.desk_base.specs.Positions.{rows_among}
 use Rattle.desk_base.specs.declared.searches.Found.{Found}
 use Rattle.desk_base.specs.Sound.{IsSound}
-use Rattle.desk_base.specs.Steps.{IsStep, IsTurn, IsAnswer, place_of, refused_limit, refused_page}
+use Rattle.desk_base.specs.Steps.{IsStep, IsTurn, IsAnswer, point_of, refused_limit, refused_per, refused_page}
 use Rattle.desk_base.specs.declared.changes.Entry.{Entry}
 use Rattle.desk_base.specs.declared.searches.Cursor.{Cursor}
-use Rattle.desk_base.specs.declared.rules.Field.TheVariants.{Limit}
+use Rattle.desk_base.specs.declared.rules.Field.TheVariants.{Limit, Per}
 use Rattle.desk_base.specs.declared.refusals.Refusal.{Refusal}
 use Rattle.desk_base.specs.declared.refusals.Refusal.TheVariants.{BadField}
 use Rattle.desk_base.specs.declared.answers.Command.{Command as Asked}
@@ -28,10 +28,11 @@ use Rattle.desk_base.specs.declared.answers.Outcome.{Outcome}
 use Rattle.desk_base.specs.declared.answers.Outcome.TheVariants.{Done, NoMemory}
 use Rattle.desk_base.specs.declared.answers.Reply.TheVariants.{Rows}
 use Rattle.desk_base.proofs.Members.{contains_from_in}
-use Rattle.desk_base.proofs.Pages.{full_rows, lives_from, pages_join}
+use Rattle.desk_base.proofs.Pages.{shown_listing, lives_from, pages_join}
 use Rattle.desk_base.proofs.Passed.{page_passes}
 use Rattle.desk_base.proofs.Shapes.{sound_group}
-use Rattle.desk_base.proofs.Tests.{find_cases, and_left}
+use Rattle.desk_base.proofs.Sounds.{well_formed}
+use Rattle.desk_base.proofs.Tests.{find_cases, and_left, and_right}
 use Rattle.desk_core.specs.Books.{BookState}
 use Rattle.desk_wire.specs.declared.rules.Request.{Request}
 use Rattle.desk_wire.specs.declared.responses.Response.{Response}
@@ -67,57 +68,63 @@ first_passes : (a b : Option Refusal) → option_or a b ≡ None → (a ≡ None
 first_passes None b e = (refl, e)
 first_passes (Some why) b e = absurd (cc)
 
-in_range : (limit : ℕ) (b : Bool) → (nat_le 1 limit && nat_le limit page_limit) ≡ b → (if b then None else Some (BadField Limit)) ≡ None → 1 ≤ limit
-in_range limit true h e = let low = and_left (nat_le 1 limit) (nat_le limit page_limit) h in grind (arith, nat_tests)
-in_range limit false h e = let f : Some (BadField Limit) ≡ None = e in absurd (cc)
+within_step : (n : ℕ) (b : Bool) (why : Refusal) → is_within_range 1 page_limit n ≡ b → (if b then None else Some why) ≡ None → (1 ≤ n) × (n ≤ page_limit)
+within_step n true why h e =
+    let low = and_left (nat_le 1 n) (nat_le n page_limit) h in
+    let high = and_right (nat_le 1 n) (nat_le n page_limit) h in (grind (arith, nat_tests), grind (arith, nat_tests))
+within_step n false why h e = let f : Some why ≡ None = e in absurd (cc)
 
-some_limit : (limit : ℕ) → refused_limit limit ≡ None → 1 ≤ limit
-some_limit limit e = in_range limit (nat_le 1 limit && nat_le limit page_limit) refl e
+per_within : (per : Option ℕ) → refused_per per ≡ None → MatchOption per (Unit {0}) (λ n. (1 ≤ n) × (n ≤ page_limit))
+per_within None e = tt
+per_within (Some n) e = within_step n (is_within_range 1 page_limit n) (BadField Per) refl e
 
--- the page of the group that stands there, with a limit of some rows
+-- the page of the group that stands there, as it may be asked for
 answer_is : (t : Tables) (g : GroupRow) (group : ℕ) (o : Options) (cursor : Option Cursor) (latest : Bool) (limit : ℕ) (page : Page) → group_of t group ≡ Some g
-    → IsAnswer t (RowsOf group o cursor latest limit) (Done (Rows page)) → (1 ≤ limit) × IsPage t g o (place_of cursor) limit page
+    → IsAnswer t (RowsOf group o cursor latest limit) (Done (Rows page)) → IsAskable o limit × IsPage t g o (point_of cursor) limit page
 answer_is t g group o cursor latest limit page there (passes, (h, found, is)) =
     let some : Some h ≡ Some g = sym found ∙ there in
     let same : h ≡ g = cc in
-    (some_limit limit (first_passes _ _ (first_passes _ _ passes).1).0, subst (λ (x : GroupRow). IsPage t x o (place_of cursor) limit page) same is)
+    let counts = first_passes _ _ (first_passes _ _ passes).1 in
+    let per = first_passes _ _ counts.1 in
+    (record { rows = within_step limit (is_within_range 1 page_limit limit) (BadField Limit) refl counts.0; of_start = per_within o.per per.0 },
+    subst (λ (x : GroupRow). IsPage t x o (point_of cursor) limit page) same is)
 
 turn_is : (t : Tables) (journal : List Entry) (u : Tables) (journal' : List Entry) (g : GroupRow) (group : ℕ) (o : Options) (cursor : Option Cursor) (latest : Bool) (limit : ℕ) (page : Page)
-    → IsTurn t journal 0 (Ask (RowsOf group o cursor latest limit)) (Done (Rows page)) u journal' → group_of u group ≡ Some g → (1 ≤ limit) × IsPage u g o (place_of cursor) limit page
+    → IsTurn t journal 0 (Ask (RowsOf group o cursor latest limit)) (Done (Rows page)) u journal' → group_of u group ≡ Some g → IsAskable o limit × IsPage u g o (point_of cursor) limit page
 turn_is t journal u journal' g group o cursor latest limit page (inl step) there =
     answer_is u g group o cursor latest limit page there (subst (λ v. IsAnswer v (RowsOf group o cursor latest limit) (Done (Rows page))) (sym step.1.0) step.0)
 turn_is t journal u journal' g group o cursor latest limit page (inr none) there = let f : Done (Rows page) ≡ NoMemory = none.0 in absurd (cc)
 
-shown : (s t : BookState) (g : GroupRow) (search : Search) (revision : ℕ) (after : Option Position) (page : Page) (x : Taken) → OwnTurn s x.command x.answer t
-    → ShowsPage search revision after page x → group_of t.tables search.group ≡ Some g → (limit : ℕ) × (1 ≤ limit) × IsPage t.tables g search.options after limit page
-shown s t g search revision after page x turn shows there =
+shown : (s t : BookState) (g : GroupRow) (search : Search) (revision : ℕ) (point : ResumePoint) (page : Page) (x : Taken) → OwnTurn s x.command x.answer t
+    → ShowsPage search revision point page x → group_of t.tables search.group ≡ Some g → (limit : ℕ) × IsAskable search.options limit × IsPage t.tables g search.options point limit page
+shown s t g search revision point page x turn shows there =
     let asked = subst (λ c. IsTurn s.tables s.journal 0 c x.answer.outcome t.tables t.journal) shows.asked turn.step in
     let answered = subst (λ (out : Outcome). IsTurn s.tables s.journal 0 (Ask (RowsOf search.group search.options shows.cursor shows.latest shows.limit)) out t.tables t.journal) shows.answered asked in
     let is = turn_is s.tables s.journal t.tables t.journal g search.group search.options shows.cursor shows.latest shows.limit page answered there in
-    (shows.limit, is.0, subst (λ (f : Option Position). IsPage t.tables g search.options f shows.limit page) shows.place is.1)
+    (shows.limit, is.0, subst (λ (f : ResumePoint). IsPage t.tables g search.options f shows.limit page) shows.from_cursor is.1)
 
 -- ---- the pages resume one another
 
 module _ (t : Tables) (search : Search) (g : GroupRow) (there : group_of t search.group ≡ Some g) where
-  one_shown : (s u : BookState) (after : Option Position) (page : Page) (turn : Option Taken) (q : Request) (r : Response) → IsTold s turn q r u → ShowsTo search t.revision after page turn
-      → (u.tables.revision ≡ t.revision → u.tables ≡ t) → (limit : ℕ) × (1 ≤ limit) × IsPage t g search.options after limit page
-  one_shown s u after page None q r told shows same = absurd shows
-  one_shown s u after page (Some x) q r told shows same =
+  one_shown : (s u : BookState) (point : ResumePoint) (page : Page) (turn : Option Taken) (q : Request) (r : Response) → IsTold s turn q r u → ShowsTo search t.revision point page turn
+      → (u.tables.revision ≡ t.revision → u.tables ≡ t) → (limit : ℕ) × IsAskable search.options limit × IsPage t g search.options point limit page
+  one_shown s u point page None q r told shows same = absurd shows
+  one_shown s u point page (Some x) q r told shows same =
       let tables = same (sym told.1.revision ∙ shows.over) in
-      let is = shown s u g search t.revision after page x told.1 shows (subst (λ v. group_of v search.group ≡ Some g) (sym tables) there) in
-      (is.0, is.1, subst (λ v. IsPage v g search.options after is.0 page) tables is.2)
+      let is = shown s u g search t.revision point page x told.1 shows (subst (λ v. group_of v search.group ≡ Some g) (sym tables) there) in
+      (is.0, is.1, subst (λ v. IsPage v g search.options point is.0 page) tables is.2)
 
-  resumed : (s : BookState) (after : Option Position) (xs : List Told) (pages : List Page) → AreTold s xs → ShowPages search t.revision after xs pages
-      → ((c : BookState) → HasStood s xs c → c.tables.revision ≡ t.revision → c.tables ≡ t) → AreResumed t g search.options after pages
-  resumed s after xs [] told shows same = tt
-  resumed s after [] (page ∷ pages) told shows same = absurd shows
-  resumed s after (x ∷ xs) (page ∷ pages) told (inl shows) same =
-      (one_shown s x.after after page x.turn x.request x.response told.0 shows.0 (same x.after (inr (stands x.after xs))), resumed x.after page.next xs pages told.1 shows.1 (λ c at. same c (inr at)))
+  resumed : (s : BookState) (point : ResumePoint) (xs : List Told) (pages : List Page) → AreTold s xs → ShowPages search t.revision point xs pages
+      → ((c : BookState) → HasStood s xs c → c.tables.revision ≡ t.revision → c.tables ≡ t) → AreResumed t g search.options point pages
+  resumed s point xs [] told shows same = tt
+  resumed s point [] (page ∷ pages) told shows same = absurd shows
+  resumed s point (x ∷ xs) (page ∷ pages) told (inl shows) same =
+      (one_shown s x.after point page x.turn x.request x.response told.0 shows.0 (same x.after (inr (stands x.after xs))), resumed x.after (next_point page) xs pages told.1 shows.1 (λ c at. same c (inr at)))
     where
       stands : (b : BookState) (ys : List Told) → HasStood b ys b
       stands b [] = refl
       stands b (y ∷ ys) = inl refl
-  resumed s after (x ∷ xs) (page ∷ pages) told (inr shows) same = resumed x.after after xs (page ∷ pages) told.1 shows (λ c at. same c (inr at))
+  resumed s point (x ∷ xs) (page ∷ pages) told (inr shows) same = resumed x.after point xs (page ∷ pages) told.1 shows (λ c at. same c (inr at))
 
 -- ---- so they join
 
@@ -130,19 +137,19 @@ contains_group id groups g e =
 
 -- pages that resume one another go on, and begin a listing
 
-passing : (t : Tables) (g : GroupRow) (o : Options) (after : Option Position) (pages : List Page) → AreResumed t g o after pages → ArePassing t g o after pages
-passing t g o after [] resumed = tt
-passing t g o after (page ∷ pages) resumed =
-    (page_passes t g o after resumed.0.0 page resumed.0.1 resumed.0.2, passing t g o page.next pages resumed.1)
+passing : (t : Tables) (g : GroupRow) (o : Options) (point : ResumePoint) (pages : List Page) → AreResumed t g o point pages → ArePassing t g o point pages
+passing t g o point [] resumed = tt
+passing t g o point (page ∷ pages) resumed =
+    (page_passes t g o point resumed.0.0 page resumed.0.1.rows.0 resumed.0.2, passing t g o (next_point page) pages resumed.1)
 
-listing_of : (t : Tables) (g : GroupRow) (o : Options) (limit : ℕ) (page : Page) → IsSoundGroup g → IsPage t g o None limit page → (listing : List Found) × IsListing t g o listing
-listing_of t g o limit page sound is = (rows_among (length g.leaves) is.0, full_rows t g o is.0 sound (lives_from t g o is.0 is.1))
+listing_of : (t : Tables) (g : GroupRow) (o : Options) (limit : ℕ) (page : Page) → IsSoundGroup g → IsPage t g o beginning limit page → (listing : List Found) × IsListing t g o listing
+listing_of t g o limit page sound is = (shown_rows o.per (rows_among (length g.leaves) is.0), shown_listing t g o is.0 sound (lives_from t g o is.0 is.1))
 
-joined : (t : Tables) (g : GroupRow) (o : Options) (page : Page) (pages : List Page) → IsSoundGroup g → AreResumed t g o None (page ∷ pages)
-    → ArePassing t g o None (page ∷ pages) × ((listing : List Found) × IsListing t g o listing × Joins t g o (page ∷ pages) listing)
+joined : (t : Tables) (g : GroupRow) (o : Options) (page : Page) (pages : List Page) → IsSoundGroup g → AreResumed t g o beginning (page ∷ pages)
+    → ArePassing t g o beginning (page ∷ pages) × ((listing : List Found) × IsListing t g o listing × Joins t g o (page ∷ pages) listing)
 joined t g o page pages sound resumed =
     let listing = listing_of t g o resumed.0.0 page sound resumed.0.2 in
-    (passing t g o None (page ∷ pages) resumed, (listing.0, listing.1, pages_join t g o (page ∷ pages) listing.0 sound listing.1 resumed))
+    (passing t g o beginning (page ∷ pages) resumed, (listing.0, listing.1, pages_join t g o (page ∷ pages) listing.0 sound listing.1 resumed))
 
 pub joins_over : (t : Tables) → IsSound t → (xs : List Exchange) (last : BookState) → Turns (Exchanged OwnTurn) (opened_over t) xs last → JoinsPages t xs
 joins_over t sound xs last h =
@@ -152,8 +159,8 @@ joins_over t sound xs last h =
       told.2,
       λ b search g page pages stood there shows.
           joined b.tables g search.options page pages
-          (sound_group b.tables g (sound_stood (opened_over t) told.0 b sound told.2 stood) (contains_group search.group b.tables.groups g there))
-          (resumed b.tables search g there (opened_over t) None told.0 (page ∷ pages) told.2 shows (λ c at. same_tables (opened_over t) told.0 c b told.2 at stood)),
+          (sound_group b.tables g (well_formed b.tables (sound_stood (opened_over t) told.0 b sound told.2 stood)) (contains_group search.group b.tables.groups g there))
+          (resumed b.tables search g there (opened_over t) beginning told.0 (page ∷ pages) told.2 shows (λ c at. same_tables (opened_over t) told.0 c b told.2 at stood)),
     )
 
 pub joins_pages : (store : Store) (xs : List Exchange) (last : BookState) → Turns (Exchanged OwnTurn) (opened_over (tables_of store)) xs last → JoinsPages (tables_of store) xs

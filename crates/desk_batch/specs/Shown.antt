@@ -1,11 +1,10 @@
 -- The pages of a search among the turns of a conversation.
-use Rattle.std.specs.Prelude.{◌≡◌, ℕ, ◌⊎◌, Bool, false, List, [], ◌∷◌, Option, Some, None, ⊤}
+use Rattle.std.specs.Prelude.{◌≡◌, ℕ, ◌⊎◌, Bool, false, List, [], ◌∷◌, Option, Some, None, ⊤, ⊥}
 use Rattle.desk_base.specs.declared.group_rows.GroupRow.{GroupRow}
 use Rattle.desk_base.specs.declared.searches.Cursor.{Cursor}
 use Rattle.desk_base.specs.declared.searches.Found.{Found}
 use Rattle.desk_base.specs.declared.searches.Options.{Options}
 use Rattle.desk_base.specs.declared.searches.Page.{Page}
-use Rattle.desk_base.specs.declared.searches.Position.{Position}
 use Rattle.desk_base.specs.declared.answers.Answer.{Answer}
 use Rattle.desk_base.specs.declared.answers.Command.{Command as Asked}
 use Rattle.desk_base.specs.declared.answers.Command.TheVariants.{Ask}
@@ -14,9 +13,9 @@ use Rattle.desk_base.specs.declared.answers.Outcome.TheVariants.{Done}
 use Rattle.desk_base.specs.declared.answers.Reply.TheVariants.{Rows}
 use Rattle.desk_base.specs.Groups.{group_of}
 use Rattle.desk_base.specs.declared.tables.Tables.{Tables}
-use Rattle.desk_base.specs.Listing.{IsLive, IsListing}
-use Rattle.desk_base.specs.Page.{IsAfter, Joins}
-use Rattle.desk_base.specs.Steps.{place_of}
+use Rattle.desk_base.specs.Listing.{IsListing}
+use Rattle.desk_base.specs.Page.{ResumePoint, beginning, next_point, PassesOne, Joins}
+use Rattle.desk_base.specs.Steps.{point_of}
 use Rattle.desk_core.specs.Books.{BookState}
 use Rattle.desk_wire.specs.declared.rules.Request.{Request}
 use Rattle.desk_wire.specs.declared.responses.Response.{Response}
@@ -58,44 +57,43 @@ abbrev pub HasStood : BookState → List Told → BookState → Type 0
 HasStood s [] b = b ≡ s
 HasStood s (x ∷ xs) b = (b ≡ s) ⊎ HasStood x.after xs b
 
--- a search: the group, and within which starts
+-- a search: the group, within which starts, and how many rows of each start it shows
 pub record Search : Type 0 where
   pub group : ℕ
   pub options : Options
 
--- the turn was asked for a page of the search, after a place and with some limit, and answered this one over this revision
-pub record ShowsPage (search : Search) (revision : ℕ) (after : Option Position) (page : Page) (x : Taken) : Type 0 where
+-- the turn was asked for a page of the search, from a point on and with some limit, and answered this one over this revision
+pub record ShowsPage (search : Search) (revision : ℕ) (point : ResumePoint) (page : Page) (x : Taken) : Type 0 where
   pub cursor : Option Cursor
   pub latest : Bool
   pub limit : ℕ
   pub asked : x.command ≡ Ask (RowsOf search.group search.options cursor latest limit)
-  pub place : place_of cursor ≡ after
+  pub from_cursor : point_of cursor ≡ point
   pub answered : x.answer.outcome ≡ Done (Rows page)
   pub over : x.answer.revision ≡ revision
 
 -- the request had a turn that shows this page
-abbrev pub ShowsTo : Search → ℕ → Option Position → Page → Option Taken → Type 0
-ShowsTo search revision after page None = ⊥
-ShowsTo search revision after page (Some x) = ShowsPage search revision after page x
+abbrev pub ShowsTo : Search → ℕ → ResumePoint → Page → Option Taken → Type 0
+ShowsTo search revision point page None = ⊥
+ShowsTo search revision point page (Some x) = ShowsPage search revision point page x
 
--- among them are these pages of the search over this revision, in this order, the first after a place and each other after the `next` of the one before
-abbrev pub ShowPages : Search → ℕ → Option Position → List Told → List Page → Type 0
-ShowPages search revision after xs [] = ⊤
-ShowPages search revision after [] (page ∷ pages) = ⊥
-ShowPages search revision after (x ∷ xs) (page ∷ pages) =
-    (ShowsTo search revision after page x.turn × ShowPages search revision page.next xs pages) ⊎ ShowPages search revision after xs (page ∷ pages)
+-- among them are these pages of the search over this revision, in this order, the first from a point on and each other with the cursor of the one before
+abbrev pub ShowPages : Search → ℕ → ResumePoint → List Told → List Page → Type 0
+ShowPages search revision point xs [] = ⊤
+ShowPages search revision point [] (page ∷ pages) = ⊥
+ShowPages search revision point (x ∷ xs) (page ∷ pages) =
+    (ShowsTo search revision point page x.turn × ShowPages search revision (next_point page) xs pages) ⊎ ShowPages search revision point xs (page ∷ pages)
 
--- each page that is not at its end has passed a live position after the place where it began, and shows the last of those as the next place
-abbrev pub ArePassing : Tables → GroupRow → Options → Option Position → List Page → Type 0
-ArePassing t g o after [] = ⊤
-ArePassing t g o after (page ∷ pages) =
-    (page.end ≡ false → (p : Position) × IsLive t g o p × IsAfter after p × (page.next ≡ Some p)) × ArePassing t g o page.next pages
+-- each page that is not at its end has passed a position that was due from the point where it began, and goes on after it
+abbrev pub ArePassing : Tables → GroupRow → Options → ResumePoint → List Page → Type 0
+ArePassing t g o point [] = ⊤
+ArePassing t g o point (page ∷ pages) = (page.end ≡ false → PassesOne t g o point page) × ArePassing t g o (next_point page) pages
 
 -- whatever pages of a search they show over the revision of a book that has stood, from the beginning of the search on, there is a listing over the
 -- tables of that book whose first rows they are together, and all of them where the last page is at the end; and each page goes on
 abbrev pub PagesJoin : BookState → List Told → Type 0
 PagesJoin s xs =
     (b : BookState) (search : Search) (g : GroupRow) (page : Page) (pages : List Page)
-    → HasStood s xs b → group_of b.tables search.group ≡ Some g → ShowPages search b.tables.revision None xs (page ∷ pages)
-    → ArePassing b.tables g search.options None (page ∷ pages)
+    → HasStood s xs b → group_of b.tables search.group ≡ Some g → ShowPages search b.tables.revision beginning xs (page ∷ pages)
+    → ArePassing b.tables g search.options beginning (page ∷ pages)
     × ((listing : List Found) × IsListing b.tables g search.options listing × Joins b.tables g search.options (page ∷ pages) listing)
