@@ -22,7 +22,7 @@ use Rattle.desk_json.specs.Faults.{fault, ◌>>=◌, IsRead}
 use Rattle.desk_json.specs.Reading.{greatest_u16, whole_of, whole_in, u32_in, id_in, text_in, moment_in, id_or_null_in, or_fault, named, plain_kinds, kind_named, kind_in}
 use Rattle.desk_json.specs.Lists.{items_in, shift_parts, shift_of, shift_in, shifts_of, shifts_in, picks_in}
 use Rattle.desk_json.specs.TreeReading.{object_in, with_only, plain_leaf, lone_tree, leaf_in, lone_leaf_in, has_inner_node, tree_in}
-use Rattle.desk_json.specs.Forms.{Form, found, under, one, both, made, has_only}
+use Rattle.desk_json.specs.Forms.{Form, found, under, under_or, one, both, made, has_only}
 use Rattle.desk_json.specs.RowForms.{header_form, zone_form, calendar_form, work_form, named_form, place_form, resource_form, window_form, group_form}
 use Rattle.desk_json.specs.Bodies.{head_form, booking_form, act_form, names_of, act_in, change_in}
 use Rattle.desk_json.specs.Asked.{IsLoneShift, IsPlainKind, IsLoneLeaf, IsAskedAct, IsAsked}
@@ -130,10 +130,10 @@ kind_plain field d =
 -- ---- trees
 
 abbrev IsLoneTree : Tree → Type 0
-IsLoneTree t = (duration : ℕ) × (effort : ℕ) × (t ≡ lone_tree (plain_leaf duration effort))
+IsLoneTree t = (duration : ℕ) × (offset : ℕ) × (effort : ℕ) × (t ≡ lone_tree (plain_leaf duration offset effort))
 
 abbrev IsPlainLeaf : Leaf → Type 0
-IsPlainLeaf l = (duration : ℕ) × (effort : ℕ) × (l ≡ plain_leaf duration effort)
+IsPlainLeaf l = (duration : ℕ) × (offset : ℕ) × (effort : ℕ) × (l ≡ plain_leaf duration offset effort)
 
 with_only_gives : {X : Type 0} (P : X → Type 0) (names : List (List ℕ)) (field : Field) (d : Data) (x : X) → P x → Gives P (with_only names field d x)
 with_only_gives P names field d x h = if_gives P (has_only names d) (Ok x) (fault rule.Unknown field) (λ e. h) tt
@@ -142,15 +142,16 @@ leaf_plain : (field : Field) (d : Data) → Gives IsPlainLeaf (leaf_in field d)
 unfolding leaf_in
 leaf_plain field d =
     then_gives IsPlainLeaf (under (codes "duration") field u32_in d) _ (λ duration.
+    then_gives IsPlainLeaf (under_or 0 (codes "offset") field u32_in d) _ (λ offset.
     then_gives IsPlainLeaf (under (codes "effort") field u32_in d) _ (λ effort.
-    with_only_gives IsPlainLeaf (codes "duration" ∷ codes "effort" ∷ []) field d (plain_leaf duration effort) (duration, effort, refl)))
+    with_only_gives IsPlainLeaf (codes "duration" ∷ codes "offset" ∷ codes "effort" ∷ []) field d (plain_leaf duration offset effort) (duration, offset, effort, refl))))
 
 lone_leaf_lone : (tree : Data) (field : Field) (leaf : Data) → Gives IsLoneTree (lone_leaf_in tree field leaf)
 unfolding lone_leaf_in
 lone_leaf_lone tree field leaf =
     then_gives IsLoneTree (object_in rule.Sort field leaf) _ (λ _.
     then_gives IsLoneTree (with_only (codes "leaf" ∷ []) field tree leaf) _ (λ own.
-    gives_then IsPlainLeaf IsLoneTree (leaf_in field own) (λ x. Ok (lone_tree x)) (leaf_plain field own) (λ x h. (h.0, h.1, ap (λ l. lone_tree l) h.2))))
+    gives_then IsPlainLeaf IsLoneTree (leaf_in field own) (λ x. Ok (lone_tree x)) (leaf_plain field own) (λ x h. (h.0, h.1, h.2, ap (λ l. lone_tree l) h.3))))
 
 tree_lone : (field : Field) (d : Data) → Gives IsLoneTree (tree_in field d)
 unfolding tree_in
@@ -200,7 +201,7 @@ group_lone d =
     let trees = second_gives IsLoneTree (one field.Step (whole_in greatest_u16)) tree d (one_gives IsLoneTree field.Tree tree_in d tree_lone) in
     made_gives (λ t. IsLoneTree t.1.1.1) IsLoneLeaf _ (both header_form (both window_form steps)) d
     (second_gives (λ u. IsLoneTree u.1.1) header_form (both window_form steps) d (second_gives (λ v. IsLoneTree v.1) window_form steps d trees))
-    (λ t h. record { nodes = ap (λ x. x.nodes) h.2; duration = h.0; effort = h.1; leaves = ap (λ x. x.leaves) h.2 })
+    (λ t h. record { nodes = ap (λ x. x.nodes) h.3; duration = h.0; offset = h.1; effort = h.2; leaves = ap (λ x. x.leaves) h.3 })
 
 -- ---- acts
 

@@ -1,24 +1,17 @@
--- The text of a cursor has digits, points and dashes alone, and is the text of no other cursor.
+-- The text of a cursor has digits, points, dashes and underlines alone, and is the text of no other cursor.
 use Rattle.std.proofs.Common.{◌≡◌, ◌≢◌, ℕ, ◌<◌, ◌^◌, ◌⊎◌, false, ◌==◌, List, [], ◌∷◌, ◌++◌, map, get_or, decimal, All, Option, Some, None, refl, sym, ap, ◌∙◌, inl, inr, arith}
 use Rattle.std.specs.List.{slice_split}
-use Rattle.std.proofs.lemmas.Bool.{ne_eqb}
-use Rattle.std.proofs.lemmas.List.Elements.{All-nil, All-cons, All-head, All-tail, All-append}
+use Rattle.std.proofs.lemmas.List.Elements.{All-nil, All-head, All-tail}
 use Rattle.std.proofs.lemmas.Fmt.{decimal_injective, digits_decimal, decimal_nonempty}
 use Rattle.std.proofs.lemmas.Str.Parse.{not_in_digits}
 use Rattle.desk_base.specs.declared.searches.Cursor.{Cursor}
-use Rattle.desk_json.specs.Cursors.{pick_text, further_pick, picks_text, position_text, cursor_text}
-use Rattle.desk_json.specs.CursorReading.{IsPick, IsCursor, cursor_pieces}
+use Rattle.desk_json.specs.Cursors.{pick_text, further_pick, picks_text, head_text, cursor_text}
+use Rattle.desk_json.specs.CursorReading.{IsPick, IsShown, IsCursor, cursor_pieces, shown_pieces, pieces_of_head}
 use Rattle.desk_json.proofs.DecimalLemmas.{own}
-use Rattle.desk_json.proofs.PieceLemmas.{Lacks, decimal_lacks}
-use Rattle.desk_json.proofs.CursorLemmas.{is_point, pieces_of_cursor}
+use Rattle.desk_json.proofs.PieceLemmas.{Lacks, decimal_lacks, one_lacks, both_lack}
+use Rattle.desk_json.proofs.CursorLemmas.{is_point, is_underline, head_lacks, pieces_of_text, pieces_of_cursor}
 
 -- Bytes that are not in it.
-
-one_lacks : (b x : ℕ) → x ≢ b → Lacks b (x ∷ [])
-one_lacks b x differs = All-cons (λ y. (y == b) ≡ false) x [] (ne_eqb x b differs) (All-nil (λ y. (y == b) ≡ false))
-
-both_lack : (b : ℕ) (front back : List ℕ) → Lacks b front → Lacks b back → Lacks b (front ++ back)
-both_lack b front back free free' = All-append (λ x. (x == b) ≡ false) front back free free'
 
 pick_lacks : (b : ℕ) (pick : Option ℕ) → (b < 45) ⊎ (57 < b) → IsPick pick → Lacks b (pick_text pick)
 pick_lacks b (Some resource) far is = decimal_lacks b resource (omega (arith, is)) (elim far [ inl low ↦ inl (omega arith) | inr high ↦ inr high ])
@@ -31,15 +24,15 @@ picks_lack b (pick ∷ picks) far each =
     (both_lack b (46 ∷ []) (pick_text pick) (one_lacks b 46 (λ e. omega (arith, far, e))) (pick_lacks b pick far (All-head IsPick pick picks each)))
     (picks_lack b picks far (All-tail IsPick pick picks each))
 
-pub cursor_lacks : (b : ℕ) (c : Cursor) → (b < 45) ⊎ (57 < b) → IsCursor c → Lacks b (cursor_text c)
-unfolding position_text
-cursor_lacks b c far is =
+pub cursor_lacks : (b : ℕ) (c : Cursor) → (b < 45) ⊎ (57 < b) → b ≢ 95 → IsCursor c → Lacks b (cursor_text c)
+unfolding cursor_text
+cursor_lacks b c far differs is =
     let no_digit : (b < 48) ⊎ (57 < b) = elim far [ inl low ↦ inl (omega arith) | inr high ↦ inr high ] in
-    let revision = decimal_lacks b c.revision (omega (arith, is.revision)) no_digit in
+    let head = head_lacks b c.revision c.shown no_digit differs is.revision is.shown in
     let start = decimal_lacks b c.position.start (omega (arith, is.start)) no_digit in
-    let front = both_lack b (decimal c.revision) (46 ∷ []) revision (one_lacks b 46 (λ e. omega (arith, far, e))) in
-    both_lack b (decimal c.revision ++ 46 ∷ [] ++ decimal c.position.start) (picks_text c.position.picks)
-    (both_lack b (decimal c.revision ++ 46 ∷ []) (decimal c.position.start) front start)
+    let front = both_lack b (head_text c.revision c.shown) (46 ∷ []) head (one_lacks b 46 (λ e. omega (arith, far, e))) in
+    both_lack b (head_text c.revision c.shown ++ 46 ∷ [] ++ decimal c.position.start) (picks_text c.position.picks)
+    (both_lack b (head_text c.revision c.shown ++ 46 ∷ []) (decimal c.position.start) front start)
     (picks_lack b c.position.picks far is.picks.each)
 
 -- One cursor for a text.
@@ -64,16 +57,29 @@ picks_same (p ∷ ps) (q ∷ qs) i j e =
     let rest : ps ≡ qs = picks_same ps qs (All-tail IsPick p ps i) (All-tail IsPick q qs j) others in
     cc
 
-abbrev cursor_of : ℕ → ℕ → List (Option ℕ) → Cursor
-cursor_of revision start picks = record { revision = revision; position = record { start = start; picks = picks } }
+shown_same : (m n : Option ℕ) → IsShown m → IsShown n → shown_pieces m ≡ shown_pieces n → m ≡ n
+shown_same (Some m) (Some n) i j e = ap (λ x. Some x) (decimal_injective m n (omega (arith, i)) (omega (arith, j)) (let one : decimal m ≡ decimal n = cc in one))
+shown_same (Some m) None i j e = cc
+shown_same None (Some n) i j e = cc
+shown_same None None i j e = refl
+
+abbrev cursor_of : ℕ → Option ℕ → ℕ → List (Option ℕ) → Cursor
+cursor_of revision shown start picks = record { revision = revision; shown = shown; position = record { start = start; picks = picks } }
 
 pub cursor_same : (c d : Cursor) → IsCursor c → IsCursor d → cursor_text c ≡ cursor_text d → c ≡ d
 cursor_same c d i j e =
     let pieces : cursor_pieces c ≡ cursor_pieces d = sym (pieces_of_cursor c i) ∙ ap (slice_split is_point) e ∙ pieces_of_cursor d j in
+    let heads : head_text c.revision c.shown ≡ head_text d.revision d.shown = cc in
+    let parts : pieces_of_head (c.revision, c.shown) ≡ pieces_of_head (d.revision, d.shown) =
+    sym (pieces_of_text c.revision c.shown i.revision i.shown) ∙ ap (slice_split is_underline) heads ∙ pieces_of_text d.revision d.shown j.revision j.shown in
     let revisions : decimal c.revision ≡ decimal d.revision = cc in
+    let rows : shown_pieces c.shown ≡ shown_pieces d.shown = cc in
+    let shown : c.shown ≡ d.shown = shown_same c.shown d.shown i.shown j.shown rows in
     let starts : decimal c.position.start ≡ decimal d.position.start = cc in
     let picks : map pick_text c.position.picks ≡ map pick_text d.position.picks = cc in
     let revision : c.revision ≡ d.revision = decimal_injective c.revision d.revision (omega (arith, i.revision)) (omega (arith, j.revision)) revisions in
     let start : c.position.start ≡ d.position.start = decimal_injective c.position.start d.position.start (omega (arith, i.start)) (omega (arith, j.start)) starts in
     let picks : c.position.picks ≡ d.position.picks = picks_same c.position.picks d.position.picks i.picks.each j.picks.each picks in
-    ap (λ x. cursor_of x c.position.start c.position.picks) revision ∙ ap (λ x. cursor_of d.revision x c.position.picks) start ∙ ap (λ x. cursor_of d.revision d.position.start x) picks
+    ap (λ x. cursor_of x c.shown c.position.start c.position.picks) revision
+    ∙ ap (λ x. cursor_of d.revision x c.position.start c.position.picks) shown
+    ∙ ap (λ x. cursor_of d.revision d.shown x c.position.picks) start ∙ ap (λ x. cursor_of d.revision d.shown d.position.start x) picks

@@ -30,9 +30,9 @@ rows_have_none : (rows : List Found) → items_have_float (items_of (map row_dat
 rows_have_none [] = refl
 rows_have_none (row ∷ rows) = rw (picks_have_none row.picks) (rows_have_none rows)
 
-next_has_none : (revision : ℕ) (next : Option Position) → has_float (next_data revision next) ≡ false
-next_has_none revision (Some position) = refl
-next_has_none revision None = refl
+next_has_none : (revision : ℕ) (shown_rows : Option ℕ) (next : Option Position) → has_float (next_data revision shown_rows next) ≡ false
+next_has_none revision shown_rows (Some position) = refl
+next_has_none revision shown_rows None = refl
 
 numbers_have_none : (numbers : List ℕ) → items_have_float (items_of (map whole_number numbers)) ≡ false
 numbers_have_none [] = refl
@@ -68,7 +68,7 @@ refusal_has_none revision (refusal.Conflict clash) = rw (shown_has_none clash.sh
 
 outcome_has_none : (revision : ℕ) (it : Outcome) → has_float (outcome_data revision it) ≡ false
 outcome_has_none revision (outcome.Done (reply.Change receipt)) = receipt_has_none false revision receipt
-outcome_has_none revision (outcome.Done (reply.Rows page)) = rw (next_has_none revision page.next, rows_have_none page.rows) refl
+outcome_has_none revision (outcome.Done (reply.Rows page)) = rw (next_has_none revision page.shown page.next, rows_have_none page.rows) refl
 outcome_has_none revision (outcome.Done reply.Revision) = refl
 outcome_has_none revision (outcome.Repeated receipt) = receipt_has_none true revision receipt
 outcome_has_none revision (outcome.Refused why) = refusal_has_none revision why

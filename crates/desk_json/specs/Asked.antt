@@ -19,12 +19,13 @@ IsLoneShift shifts = (m : ℕ) × (shifts ≡ (m, pos 0) ∷ [])
 abbrev pub IsPlainKind : Kind → Type 0
 IsPlainKind k = sort_of_kind k ≡ plain
 
--- a group of one leaf, which makes no demand but its duration and effort
+-- a group of one leaf, which makes no demand but its duration, its offset and its effort
 pub record IsLoneLeaf (g : GroupRow) : Type 0 where
   pub nodes : g.nodes ≡ lone_node ∷ []
   pub duration : ℕ
+  pub offset : ℕ
   pub effort : ℕ
-  pub leaves : g.leaves ≡ plain_leaf duration effort ∷ []
+  pub leaves : g.leaves ≡ plain_leaf duration offset effort ∷ []
 
 -- a row that a body can put
 abbrev pub IsAskedRow : AnyRow → Type 0

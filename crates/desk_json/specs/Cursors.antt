@@ -1,7 +1,6 @@
--- The text of a cursor: `REVISION.START.PICK`, and further picks behind points.
+-- The text of a cursor: `REVISION.START.PICK` or `REVISION_SHOWN.START.PICK`, and further picks behind points.
 use Rattle.std.specs.Prelude.{ℕ, List, ◌++◌, codes, decimal, Option, Some, None}
 use Rattle.std.specs.List.{flat_map}
-use Rattle.desk_base.specs.declared.searches.Position.{Position}
 use Rattle.desk_base.specs.declared.searches.Cursor.{Cursor}
 
 -- a pick is the resource in decimal, or `-` for a leaf that is left out
@@ -17,10 +16,15 @@ further_pick pick = codes "." ++ pick_text pick
 abbrev pub picks_text : List (Option ℕ) → List ℕ
 picks_text picks = flat_map further_pick picks
 
--- a position over a revision: both numbers in decimal, and the picks
-unfoldable pub position_text : ℕ → Position → List ℕ
-position_text revision p = decimal revision ++ codes "." ++ decimal p.start ++ picks_text p.picks
+-- how many rows were shown, behind an underline, or nothing where that is not said
+abbrev pub shown_text : Option ℕ → List ℕ
+shown_text (Some shown) = codes "_" ++ decimal shown
+shown_text None = codes ""
 
--- the text of a cursor
-abbrev pub cursor_text : Cursor → List ℕ
-cursor_text c = position_text c.revision c.position
+-- the revision, and how many rows were shown
+abbrev pub head_text : ℕ → Option ℕ → List ℕ
+head_text revision shown = decimal revision ++ shown_text shown
+
+-- the text of a cursor: its head, the start in decimal, and the picks
+unfoldable pub cursor_text : Cursor → List ℕ
+cursor_text c = head_text c.revision c.shown ++ codes "." ++ decimal c.position.start ++ picks_text c.position.picks

@@ -18,6 +18,15 @@ found field read None = fault Missing field
 unfoldable pub under : {X : Type 0} → List ℕ → Field → (Field → Data → Result X BodyError) → Data → Result X BodyError
 under name field read d = found field read (get name d)
 
+-- what is found, or this where nothing is
+abbrev pub found_or : {X : Type 0} → X → Field → (Field → Data → Result X BodyError) → Option Data → Result X BodyError
+found_or absent field read (Some d) = read field d
+found_or absent field read None = Ok absent
+
+-- what stands under a name that may be absent
+unfoldable pub under_or : {X : Type 0} → X → List ℕ → Field → (Field → Data → Result X BodyError) → Data → Result X BodyError
+under_or absent name field read d = found_or absent field read (get name d)
+
 -- the value of a field, which stands under the field's own name
 abbrev pub at : {X : Type 0} → Field → (Field → Data → Result X BodyError) → Data → Result X BodyError
 at field read d = under (field_name field) field read d

@@ -5,7 +5,7 @@ use Rattle.desk_base.specs.declared.searches.Found.{Found}
 use Rattle.desk_base.specs.declared.searches.Position.{Position}
 use Rattle.desk_base.specs.declared.searches.Page.{Page}
 use Rattle.desk_json.specs.Values.{whole_number, number_or_null, moment_data, list_of}
-use Rattle.desk_json.specs.Cursors.{position_text}
+use Rattle.desk_json.specs.Cursors.{cursor_text}
 
 -- a row is its start, and then its picks: resources, or null for a leaf that is left out
 abbrev pub row_data : Found → Data
@@ -15,10 +15,10 @@ row_data row = list_of (moment_data row.start ∷ map number_or_null row.picks)
 abbrev pub rows_data : List Found → Data
 rows_data rows = list_of (map row_data rows)
 
--- the cursor behind which the next page comes, over this revision, or null where there is none
-abbrev pub next_data : ℕ → Option Position → Data
-next_data revision (Some position) = string (position_text revision position)
-next_data revision None = null
+-- the cursor behind which the next page comes, over this revision and behind the shown rows, or null where there is none
+abbrev pub next_data : ℕ → Option ℕ → Option Position → Data
+next_data revision shown (Some position) = string (cursor_text (record { revision = revision; shown = shown; position = position }))
+next_data revision shown None = null
 
 -- the object of a page: whether it ends the search, where the next begins, the revision, and the rows
 abbrev pub page_object : Bool → Data → ℕ → Data → Data
@@ -30,4 +30,4 @@ page_object end next revision rows =
 
 -- a page of rows
 abbrev pub page_data : ℕ → Page → Data
-page_data revision page = page_object page.end (next_data revision page.next) revision (rows_data page.rows)
+page_data revision page = page_object page.end (next_data revision page.shown page.next) revision (rows_data page.rows)

@@ -1,4 +1,4 @@
--- What the tree of a group is read as: by now one leaf, which makes no demand but its duration and effort.
+-- What the tree of a group is read as: by now one leaf, which makes no demand but its duration, its offset and its effort.
 use Rattle.std.specs.Prelude.{ℕ, Bool, ◌||◌, List, [], ◌∷◌, codes, None, Result, Ok, is_some, if◌then◌else◌, ⊤}
 use Rattle.serde_json.specs.Data.{Data}
 use Rattle.serde_json.specs.Find.{get, as_object}
@@ -13,7 +13,7 @@ use Rattle.desk_json.specs.declared.faults.BodyRule.{BodyRule}
 use Rattle.desk_json.specs.declared.faults.BodyRule.TheVariants.{Sort, Range, Unknown}
 use Rattle.desk_json.specs.Faults.{fault, ◌>>=◌}
 use Rattle.desk_json.specs.Reading.{u32_in}
-use Rattle.desk_json.specs.Forms.{under, has_only}
+use Rattle.desk_json.specs.Forms.{under, under_or, has_only}
 
 -- what is no object breaks a rule
 abbrev pub object_in : BodyRule → Field → Data → Result ⊤ BodyError
@@ -28,20 +28,21 @@ abbrev pub lone_node : Node
 lone_node = record { depth = 0; kind = LeafNode; same = NoSame }
 
 -- a leaf that makes no demand but these
-abbrev pub plain_leaf : ℕ → ℕ → Leaf
-plain_leaf duration effort =
-    record { duration = duration; effort = effort; kinds = []; roles = []; characteristics = []; territories = []; units = []; required = []; restricted = []; window = None }
+abbrev pub plain_leaf : ℕ → ℕ → ℕ → Leaf
+plain_leaf duration offset effort =
+    record { duration = duration; offset = offset; effort = effort; kinds = []; roles = []; characteristics = []; territories = []; units = []; required = []; restricted = []; window = None }
 
 -- the tree of one leaf
 abbrev pub lone_tree : Leaf → Tree
 lone_tree leaf = record { nodes = lone_node ∷ []; leaves = leaf ∷ [] }
 
--- a leaf by its duration and its effort; other fields are not read by now
+-- a leaf by its duration, its offset, which may be absent and is then 0, and its effort; other fields are not read by now
 unfoldable pub leaf_in : Field → Data → Result Leaf BodyError
 leaf_in field d =
     under (codes "duration") field u32_in d >>= λ duration.
+    under_or 0 (codes "offset") field u32_in d >>= λ offset.
     under (codes "effort") field u32_in d >>= λ effort.
-    with_only (codes "duration" ∷ codes "effort" ∷ []) field d (plain_leaf duration effort)
+    with_only (codes "duration" ∷ codes "offset" ∷ codes "effort" ∷ []) field d (plain_leaf duration offset effort)
 
 -- a tree that is a leaf: the faults of its own come before those of the leaf's fields
 unfoldable pub lone_leaf_in : Data → Field → Data → Result Tree BodyError

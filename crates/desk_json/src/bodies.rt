@@ -68,8 +68,8 @@ fn parse(alloc: Global, body: &[u8]) -> Result<Value, BodyError>
 ///
 /// Fields are judged in the order act, caller, number, and then as they stand in the form of the act; a field that the act does
 /// not have comes last. By now the acts are put_zone (with one shift, by 0 minutes), put_calendar, put_work, put_unit, put_site,
-/// put_resource (of a plain kind), put_group (of one leaf with a duration and an effort), book_group and cancel_group. Other acts,
-/// shifts, kinds and trees break the rule `Range`, other fields of a leaf the rule `Unknown`.
+/// put_resource (of a plain kind), put_group (of one leaf with a duration, an offset or none, and an effort), book_group and
+/// cancel_group. Other acts, shifts, kinds and trees break the rule `Range`, other fields of a leaf the rule `Unknown`.
 pub fn read_change(alloc: Global, body: &[u8]) -> Result<Command, BodyError>
     ensures change { Reads body.now result }
     ensures form { IfOk result (λ command. IsAsked command) }

@@ -1,8 +1,8 @@
 //! A cursor read from its text.
 ghost use Rattle.std.specs.Prelude.{◌≡◌, ◌≤◌, map, decimal, All};
-ghost use Rattle.desk_base.specs.Limits.{revision_limit};
+ghost use Rattle.desk_base.specs.Limits.{revision_limit, page_limit};
 ghost use Rattle.desk_json.specs.Cursors.{pick_text, cursor_text};
-ghost use Rattle.desk_json.specs.CursorReading.{IsMoment, IsPick, ArePicks, IsCursor, IsReading, cursor_pieces};
+ghost use Rattle.desk_json.specs.CursorReading.{IsMoment, IsPick, ArePicks, IsCursor, IsHead, IsReading, cursor_pieces, text_of_head, pieces_of_head};
 
 use crate::decimals::{read_id, read_number};
 use crate::pieces::pieces_of;
@@ -42,20 +42,54 @@ impl From<NoMemory> for CursorError {
 /// The greatest revision.
 const GREATEST_REVISION: u64 = 1_000_000_000_000_000;
 
-/// The leaves of a group.
-const MOST_LEAVES: usize = 12;
+/// The rows of a page.
+const MOST_ROWS: u64 = 500;
 
-fn read_revision(text: &[u8]) -> Result<u64, CursorError>
-    ensures { IsReading (λ n. n ≤ revision_limit) (λ n. decimal n) text.now result }
+/// The leaves of a group.
+const MOST_LEAVES: usize = 24;
+
+fn read_up_to(text: &[u8], greatest: u64) -> Result<u64, CursorError>
+    ensures { IsReading (λ n. n ≤ greatest) (λ n. decimal n) text.now result }
 {
     let Some(number) = read_number(text) else {
         return Err(CursorError::BadCursor);
     };
-    if number <= GREATEST_REVISION {
+    if number <= greatest {
         Ok(number)
     } else {
         Err(CursorError::BadCursor)
     }
+}
+
+fn read_revision(text: &[u8]) -> Result<u64, CursorError>
+    ensures { IsReading (λ n. n ≤ revision_limit) (λ n. decimal n) text.now result }
+{
+    read_up_to(text, GREATEST_REVISION)
+}
+
+fn read_shown(text: &[u8]) -> Result<u16, CursorError>
+    ensures { IsReading (λ n. n ≤ page_limit) (λ n. decimal n) text.now result }
+{
+    let shown = read_up_to(text, MOST_ROWS)?;
+    Ok(shown as u16)
+}
+
+fn read_head_pieces(pieces: &[&[u8]]) -> Result<(u64, Option<u16>), CursorError>
+    ensures { IsReading IsHead pieces_of_head (map (λ piece. piece.now) pieces.now) result }
+{
+    match pieces {
+        [revision] => Ok((read_revision(revision)?, None)),
+        [revision, shown] => Ok((read_revision(revision)?, Some(read_shown(shown)?))),
+        _ => Err(CursorError::BadCursor),
+    }
+}
+
+// The revision, and how many rows were shown.
+fn read_head(alloc: Global, text: &[u8]) -> Result<(u64, Option<u16>), CursorError>
+    ensures { IsReading IsHead text_of_head text.now result }
+{
+    let pieces = pieces_of(alloc, text, b'_')?;
+    read_head_pieces(pieces.as_slice())
 }
 
 fn read_start(text: &[u8]) -> Result<Minute, CursorError>
@@ -108,20 +142,21 @@ fn read_picks(alloc: Global, pieces: &[&[u8]]) -> Result<Picks, CursorError>
 fn read_pieces(alloc: Global, pieces: &[&[u8]]) -> Result<Cursor, CursorError>
     ensures { IsReading IsCursor cursor_pieces (map (λ piece. piece.now) pieces.now) result }
 {
-    let [revision, start, picks @ ..] = pieces else {
+    let [head, start, picks @ ..] = pieces else {
         return Err(CursorError::BadCursor);
     };
-    let revision = read_revision(revision)?;
+    let (revision, shown) = read_head(alloc, head)?;
     let start = read_start(start)?;
     let picks = read_picks(alloc, picks)?;
     Ok(Cursor {
         revision,
+        shown,
         position: Position { start, picks },
     })
 }
 
-/// The cursor that is written so: the revision up to 10^15, the start as a minute of the horizon or its end, and 1 to 12
-/// picks, each `-` or an id. No number has a leading zero.
+/// The cursor that is written so: the revision up to 10^15, behind it `_` and how many rows were shown (0 to 500) or nothing, the
+/// start as a minute of the horizon or its end, and 1 to 24 picks, each `-` or an id. No number has a leading zero.
 pub fn read_cursor(alloc: Global, text: &[u8]) -> Result<Cursor, CursorError>
     ensures { IsReading IsCursor cursor_text text.now result }
 {

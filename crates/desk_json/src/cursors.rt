@@ -1,6 +1,7 @@
 //! The text of a cursor.
 ghost use Rattle.std.specs.Prelude.{◌≡◌, ◌++◌, decimal, string_bytes, IfOk, OnOk};
-ghost use Rattle.desk_json.specs.Cursors.{pick_text, further_pick, picks_text, position_text, cursor_text};
+ghost use Rattle.desk_base.specs.declared.searches.Cursor.{Cursor};
+ghost use Rattle.desk_json.specs.Cursors.{pick_text, further_pick, picks_text, shown_text, head_text, cursor_text};
 
 use desk_base::{Cursor, NoMemory, Position, ResourceId};
 use std::alloc::{AllocError, Global};
@@ -45,13 +46,40 @@ fn push_picks(
     Ok(())
 }
 
-/// The text of a cursor at a position of a search over a revision.
-#[tactic(auto, unfolding(crate::specs::Cursors::position_text))]
-pub fn position_text(alloc: Global, revision: u64, position: &Position) -> Result<String, NoMemory>
-    ensures { IfOk result (λ text. string_bytes text ≡ position_text revision position.now) }
+fn push_shown(text: &mut String, alloc: Global, shown: Option<u16>) -> Result<(), AllocError>
+    ensures { OnOk result (string_bytes text.new ≡ string_bytes text.old ++ shown_text shown) }
+{
+    let Some(shown) = shown else {
+        return Ok(());
+    };
+    text.push_str("_")?;
+    push_number(text, alloc, shown as u64)
+}
+
+fn push_head(
+    text: &mut String,
+    alloc: Global,
+    revision: u64,
+    shown: Option<u16>,
+) -> Result<(), AllocError>
+    ensures { OnOk result (string_bytes text.new ≡ string_bytes text.old ++ head_text revision shown) }
+{
+    push_number(text, alloc, revision)?;
+    push_shown(text, alloc, shown)
+}
+
+/// The text of the cursor behind a position of a search over a revision.
+#[tactic(auto, unfolding(crate::specs::Cursors::cursor_text))]
+pub(crate) fn text_behind(
+    alloc: Global,
+    revision: u64,
+    shown: Option<u16>,
+    position: &Position,
+) -> Result<String, NoMemory>
+    ensures { IfOk result (λ text. string_bytes text ≡ cursor_text (record { revision = revision; shown = shown; position = position.now })) }
 {
     let mut text = String::new(alloc);
-    push_number(&mut text, alloc, revision)?;
+    push_head(&mut text, alloc, revision, shown)?;
     text.push_str(".")?;
     push_number(&mut text, alloc, position.start.get() as u64)?;
     push_picks(&mut text, alloc, position.picks.as_slice())?;
@@ -59,9 +87,9 @@ pub fn position_text(alloc: Global, revision: u64, position: &Position) -> Resul
 }
 
 /// The text of a cursor, `REVISION.START.PICK` and further picks: decimal numbers between points, and `-` for a leaf that is
-/// left out.
+/// left out. Where the cursor says how many rows of its start were shown, the text is `REVISION_SHOWN.START.PICK`.
 pub fn cursor_text(alloc: Global, cursor: &Cursor) -> Result<String, NoMemory>
     ensures { IfOk result (λ text. string_bytes text ≡ cursor_text cursor.now) }
 {
-    position_text(alloc, cursor.revision, &cursor.position)
+    text_behind(alloc, cursor.revision, cursor.shown, &cursor.position)
 }

@@ -3,7 +3,7 @@ ghost use Rattle.std.specs.Prelude.{◌≡◌, ◌≤◌, map, IfOk};
 ghost use Rattle.serde_json.specs.View.{view, members_view};
 ghost use Rattle.desk_json.specs.Faults.{IsRead};
 ghost use Rattle.desk_json.specs.Reading.{whole_in, u32_in, id_in, serial_in, id_or_null_in, text_in, moment_in, kind_in};
-ghost use Rattle.desk_json.specs.Forms.{under, at, is_among, members_among, has_only};
+ghost use Rattle.desk_json.specs.Forms.{under, under_or, at, is_among, members_among, has_only};
 
 use crate::faults::{BodyError, BodyRule};
 use crate::reading::{
@@ -29,6 +29,17 @@ pub(crate) fn u32_under(object: &Value, name: &str, field: Field) -> Result<u32,
     match object.get(name) {
         Some(value) => read_u32(value, field),
         None => Err(missing(field)),
+    }
+}
+
+/// A whole number of 32 bits under a name, or 0 where nothing stands under it.
+#[tactic(auto, unfolding(crate::specs::Forms::under_or))]
+pub(crate) fn u32_or_0_under(object: &Value, name: &str, field: Field) -> Result<u32, BodyError>
+    ensures { result ≡ under_or 0 name.now field u32_in (view object.now) }
+{
+    match object.get(name) {
+        Some(value) => read_u32(value, field),
+        None => Ok(0),
     }
 }
 

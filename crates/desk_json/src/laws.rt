@@ -1,5 +1,5 @@
 //! Laws of cursors and of bodies: each is the contract of a function that does nothing.
-ghost use Rattle.std.specs.Prelude.{◌≡◌, ◌⊎◌, ◌<◌, ◌==◌, ℕ, false, Ok, All};
+ghost use Rattle.std.specs.Prelude.{◌≡◌, ◌≢◌, ◌⊎◌, ◌<◌, ◌==◌, ℕ, false, Ok, All};
 ghost use Rattle.serde_json.specs.Data.{Data};
 ghost use Rattle.desk_base.specs.declared.searches.Cursor.{Cursor};
 ghost use Rattle.desk_base.specs.declared.answers.Command.{Command};
@@ -13,9 +13,9 @@ pub fn texts_have_one_cursor()
     ensures { (c d : Cursor) → IsCursor c → IsCursor d → cursor_text c ≡ cursor_text d → c ≡ d }
 {}
 
-/// The text of a cursor has no bytes but digits, points and dashes.
+/// The text of a cursor has no bytes but digits, points, dashes (45) and underlines (95).
 pub fn cursor_texts_are_plain()
-    ensures { (byte : ℕ) (c : Cursor) → (byte < 45) ⊎ (57 < byte) → IsCursor c → All (λ x. (x == byte) ≡ false) (cursor_text c) }
+    ensures { (byte : ℕ) (c : Cursor) → (byte < 45) ⊎ (57 < byte) → byte ≢ 95 → IsCursor c → All (λ x. (x == byte) ≡ false) (cursor_text c) }
 {}
 
 /// What a body asks for is of the listed forms.

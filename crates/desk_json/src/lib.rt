@@ -4,8 +4,6 @@
 mod acts;
 mod answers;
 mod bodies;
-#[cfg(test)]
-mod cases;
 mod cursor_reading;
 mod cursors;
 mod decimals;
@@ -27,7 +25,7 @@ mod words;
 pub use answers::answer_text;
 pub use bodies::read_change;
 pub use cursor_reading::{CursorError, read_cursor};
-pub use cursors::{cursor_text, position_text};
+pub use cursors::cursor_text;
 pub use decimals::{read_id, read_number};
 pub use faults::{BodyError, BodyRule};
 pub use pieces::pieces_of;

@@ -4,7 +4,7 @@ ghost use Rattle.serde_json.specs.View.{view};
 ghost use Rattle.desk_json.specs.Values.{number_or_null};
 ghost use Rattle.desk_json.specs.Pages.{row_data, rows_data, next_data, page_object, page_data};
 
-use crate::cursors::position_text;
+use crate::cursors::text_behind;
 use crate::moments::moment_value;
 use desk_base::{Found, NoMemory, Page, Position, ResourceId};
 use serde_json::{Value, json, push};
@@ -48,11 +48,16 @@ fn rows_value(alloc: Global, rows: &[Found]) -> Result<Value, AllocError>
     Ok(Value::Array(values))
 }
 
-fn next_value(alloc: Global, revision: u64, next: &Option<Position>) -> Result<Value, NoMemory>
-    ensures { IfOk result (λ value. view value ≡ next_data revision next.now) }
+fn next_value(
+    alloc: Global,
+    revision: u64,
+    shown: Option<u16>,
+    next: &Option<Position>,
+) -> Result<Value, NoMemory>
+    ensures { IfOk result (λ value. view value ≡ next_data revision shown next.now) }
 {
     match next {
-        Some(position) => Ok(Value::String(position_text(alloc, revision, position)?)),
+        Some(position) => Ok(Value::String(text_behind(alloc, revision, shown, position)?)),
         None => Ok(Value::Null),
     }
 }
@@ -73,7 +78,7 @@ fn page_object(
 pub(crate) fn page_value(alloc: Global, revision: u64, page: &Page) -> Result<Value, NoMemory>
     ensures { IfOk result (λ value. view value ≡ page_data revision page.now) }
 {
-    let next = next_value(alloc, revision, &page.next)?;
+    let next = next_value(alloc, revision, page.shown, &page.next)?;
     let rows = rows_value(alloc, page.rows.as_slice())?;
     Ok(page_object(alloc, page.end, next, revision, rows)?)
 }

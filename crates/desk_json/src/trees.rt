@@ -1,4 +1,4 @@
-//! The tree of a group, from a body: by now one leaf, which makes no demand but its duration and effort.
+//! The tree of a group, from a body: by now one leaf, which makes no demand but its duration, its offset and its effort.
 ghost use Rattle.std.specs.Prelude.{◌≡◌, Ok};
 ghost use Rattle.serde_json.specs.View.{view};
 ghost use Rattle.desk_json.specs.Faults.{IsRead};
@@ -6,7 +6,7 @@ ghost use Rattle.desk_json.specs.Forms.{at};
 ghost use Rattle.desk_json.specs.TreeReading.{plain_leaf, lone_tree, leaf_in, lone_leaf_in, tree_in};
 
 use crate::faults::{BodyError, BodyRule};
-use crate::fields::{has_only, missing, u32_under};
+use crate::fields::{has_only, missing, u32_or_0_under, u32_under};
 use crate::words::field_name;
 use desk_base::{Field, Items, Leaf, Leaves, Node, NodeKind, Nodes, Same};
 use serde_json::Value;
@@ -19,11 +19,12 @@ pub struct Tree {
     pub leaves: Leaves,
 }
 
-fn plain_leaf(alloc: Global, duration: u32, effort: u32) -> Leaf
-    ensures { result ≡ plain_leaf duration effort }
+fn plain_leaf(alloc: Global, duration: u32, offset: u32, effort: u32) -> Leaf
+    ensures { result ≡ plain_leaf duration offset effort }
 {
     Leaf {
         duration,
+        offset,
         effort,
         kinds: Items::new(alloc),
         roles: Items::new(alloc),
@@ -55,9 +56,10 @@ fn read_leaf(alloc: Global, leaf: &Value, field: Field) -> Result<Leaf, BodyErro
     ensures { result ≡ leaf_in field (view leaf.now) }
 {
     let duration = u32_under(leaf, "duration", field)?;
+    let offset = u32_or_0_under(leaf, "offset", field)?;
     let effort = u32_under(leaf, "effort", field)?;
-    if has_only(leaf, &["duration", "effort"]) {
-        Ok(plain_leaf(alloc, duration, effort))
+    if has_only(leaf, &["duration", "offset", "effort"]) {
+        Ok(plain_leaf(alloc, duration, offset, effort))
     } else {
         Err(BodyError::Bad(BodyRule::Unknown, field))
     }

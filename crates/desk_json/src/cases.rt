@@ -1,4 +1,0 @@
-//! Texts byte for byte, and each public call once.
-mod answers;
-mod bodies;
-mod cursors;
