@@ -4,12 +4,12 @@ use Rattle.std.specs.List.{slice_split}
 use Rattle.std.proofs.lemmas.List.{append_assoc, append-nil, get_or-map, length-map}
 use Rattle.std.proofs.lemmas.List.Elements.{All-nil, All-cons, All-head, All-tail}
 use Rattle.std.proofs.lemmas.List.Splits.{slice_split_none, slice_split_at}
-use Rattle.desk_base.specs.Limits.{revision_limit, page_limit}
+use Rattle.desk_base.specs.Limits.{revision_limit}
 use Rattle.desk_base.specs.declared.searches.Cursor.{Cursor}
 use Rattle.desk_json.specs.Cursors.{pick_text, picks_text, shown_text, head_text, cursor_text}
 use Rattle.desk_json.specs.declared.cursor_reading.CursorError.{CursorError}
 use Rattle.desk_json.specs.declared.cursor_reading.CursorError.TheVariants.{BadCursor, NoMemory}
-use Rattle.desk_json.specs.CursorReading.{IsPick, ArePicks, IsMoment, IsShown, IsCursor, IsHead, IsReading, cursor_pieces, text_of_head, pieces_of_head}
+use Rattle.desk_json.specs.CursorReading.{IsPick, IsShown, IsCursor, IsHead, IsReading, cursor_pieces, text_of_head, pieces_of_head}
 use Rattle.desk_json.proofs.PieceLemmas.{Lacks, decimal_lacks, one_lacks, both_lack, same_pieces}
 
 abbrev pub is_point : ℕ → Bool
@@ -44,19 +44,6 @@ pieces_of_text revision (Some shown) small is =
     ∙ ap (λ pieces. decimal revision ∷ pieces) (slice_split_none is_underline (decimal shown) (no_underline_in_decimal shown (omega (arith, is))))
 pieces_of_text revision None small is = rw append-nil (slice_split_none is_underline (decimal revision) (no_underline_in_decimal revision (omega (arith, small))))
 
--- no head has a revision or shown rows that do not read
-pub bad_revision : (e : CursorError) (revision : List ℕ) (rest : List (List ℕ)) → IsReading (λ n. n ≤ revision_limit) (λ n. decimal n) revision (Err e) → IsReading IsHead pieces_of_head (revision ∷ rest) (Err e)
-bad_revision BadCursor revision rest h = λ head is f. h head.0 is.revision (let same : revision ≡ decimal head.0 = cc in same)
-bad_revision NoMemory revision rest h = tt
-
-not_shown : (revision shown : List ℕ) (r : ℕ) (s : Option ℕ) → IsShown s → ((n : ℕ) → n ≤ page_limit → shown ≢ decimal n) → revision ∷ shown ∷ [] ≢ pieces_of_head (r, s)
-not_shown revision shown r (Some n) is h f = h n is (let same : shown ≡ decimal n = cc in same)
-not_shown revision shown r None is h f = cc
-
-pub bad_shown : (e : CursorError) (revision shown : List ℕ) → IsReading (λ n. n ≤ page_limit) (λ n. decimal n) shown (Err e) → IsReading IsHead pieces_of_head (revision ∷ shown ∷ []) (Err e)
-bad_shown BadCursor revision shown h = λ head is f. not_shown revision shown head.0 head.1 is.shown h f
-bad_shown NoMemory revision shown h = tt
-
 -- ---- picks
 
 pieces_of_picks : (front : List ℕ) (picks : List (Option ℕ)) → All (λ b. is_point b ≡ false) front → All IsPick picks → slice_split is_point (front ++ picks_text picks) ≡ front ∷ map pick_text picks
@@ -88,25 +75,17 @@ bad_piece e pieces i d (Err y) within h is =
     let now : Bor (List ℕ) → List ℕ = λ piece. piece.now in
     rw is (no_such_piece e (map now pieces) i (omega (arith, length-map pieces now)) (subst (λ (text : List ℕ). IsReading IsPick pick_text text (Err e)) (sym (get_or-map now pieces i d [] within)) h))
 
--- no cursor has a head, a start or picks that do not read
-pub bad_head : (e : CursorError) (head start : List ℕ) (picks : List (List ℕ)) → IsReading IsHead text_of_head head (Err e) → IsReading IsCursor cursor_pieces (head ∷ start ∷ picks) (Err e)
+-- no cursor has a head that does not read
+bad_head : (e : CursorError) (head start : List ℕ) (picks : List (List ℕ)) → IsReading IsHead text_of_head head (Err e) → IsReading IsCursor cursor_pieces (head ∷ start ∷ picks) (Err e)
 bad_head BadCursor head start picks h = λ c is f. h (c.revision, c.shown) (record { revision = is.revision; shown = is.shown }) (let same : head ≡ head_text c.revision c.shown = cc in same)
 bad_head NoMemory head start picks h = tt
 
--- the same of the pieces that are read
+-- nor pieces that begin with one
 pub bad_front : (e : CursorError) (pieces : List (Bor (List ℕ))) (d : Bor (List ℕ)) (r : Result Cursor CursorError) → 2 ≤ length pieces → IsReading IsHead text_of_head (get_or pieces 0 d).now (Err e) → IsErrAnd r (λ y. y ≡ e) → IsReading IsCursor cursor_pieces (map (λ piece. piece.now) pieces) r
 bad_front e pieces d (Ok c) long h is = absurd is
 bad_front e [] d (Err y) long h is = absurd (omega arith)
 bad_front e (head ∷ []) d (Err y) long h is = absurd (omega arith)
 bad_front e (head ∷ start ∷ picks) d (Err y) long h is = rw is (bad_head e head.now start.now (map (λ piece. piece.now) picks) h)
-
-pub bad_start : (e : CursorError) (revision start : List ℕ) (picks : List (List ℕ)) → IsReading IsMoment (λ n. decimal n) start (Err e) → IsReading IsCursor cursor_pieces (revision ∷ start ∷ picks) (Err e)
-bad_start BadCursor revision start picks h = λ c is f. h c.position.start is.start (let same : start ≡ decimal c.position.start = cc in same)
-bad_start NoMemory revision start picks h = tt
-
-pub bad_picks : (e : CursorError) (revision start : List ℕ) (picks : List (List ℕ)) → IsReading ArePicks (map pick_text) picks (Err e) → IsReading IsCursor cursor_pieces (revision ∷ start ∷ picks) (Err e)
-bad_picks BadCursor revision start picks h = λ c is f. h c.position.picks is.picks (let same : picks ≡ map pick_text c.position.picks = cc in same)
-bad_picks NoMemory revision start picks h = tt
 
 -- what the pieces of a head read as is what its text reads as
 pub whole_head : (text : List ℕ) (r : Result (ℕ × Option ℕ) CursorError) → IsReading IsHead pieces_of_head (slice_split is_underline text) r → IsReading IsHead text_of_head text r
