@@ -5,6 +5,7 @@ ghost use Rattle.desk_base.specs.Acts.{after_act, change_of};
 ghost use Rattle.desk_base.specs.Sound.{IsSound};
 ghost use Rattle.desk_base.specs.Trial.{trial};
 ghost use Rattle.desk_base.specs.declared.changes.Act.TheVariants.{PutGroup};
+ghost use Rattle.desk_core.specs.Built.{IsBuilt};
 ghost use Rattle.tests_core.specs.Relays.{node, hour_of, both_of, relay, twice, first_call};
 
 use desk_base::laws::{sound_tables_are_well_formed, standing_bookings_fit};
@@ -227,7 +228,9 @@ fn are_booked(bookings: &[BookingRow]) -> bool {
 }
 
 /// Books the relay at 09:00.
-fn command(alloc: Global) -> Result<Command, Fail> {
+fn command(alloc: Global) -> Result<Command, Fail>
+    ensures { IfOk result (λ c. IsBuilt c) }
+{
     let call = Call {
         caller: CallerId::of(7).ok_or("no caller")?,
         number: CallNumber::of(2).ok_or("no number")?,
