@@ -54,6 +54,34 @@ const TOUCHING_ENDS: [Exchange<'static>; 3] = [
     ),
 ];
 
+/// A leaf that begins an hour after its group's start is booked for that hour.
+const LATER_LEAF: [Exchange<'static>; 4] = [
+    (
+        POST,
+        "{\"act\":\"put_group\",\"caller\":7,\"number\":1,\"id\":2,\"name\":\"Visit\",\"from\":\"2025-01-06T08:00Z\",\"to\":\"2025-01-06T12:00Z\",\"step\":60,\"tree\":{\"leaf\":{\"duration\":60,\"offset\":60,\"effort\":1}}}",
+        OK,
+        PUT_AT_1,
+    ),
+    (
+        "GET /groups/2/rows",
+        "",
+        OK,
+        "{\"end\":true,\"next\":\"1.28935960.3\",\"revision\":1,\"rows\":[[\"2025-01-06T08:00Z\",1],[\"2025-01-06T08:00Z\",2],[\"2025-01-06T09:00Z\",1],[\"2025-01-06T09:00Z\",2],[\"2025-01-06T09:00Z\",3],[\"2025-01-06T10:00Z\",1],[\"2025-01-06T10:00Z\",2],[\"2025-01-06T10:00Z\",3]]}",
+    ),
+    (
+        POST,
+        "{\"act\":\"book_group\",\"caller\":7,\"number\":2,\"group\":2,\"start\":\"2025-01-06T09:00Z\",\"picks\":[3]}",
+        OK,
+        "{\"bookings\":[1],\"done\":\"booked\",\"effort_minutes\":60,\"repeated\":false,\"revision\":2}",
+    ),
+    (
+        "GET /groups/1/rows?from=2025-01-06T10:00Z&to=2025-01-06T11:00Z",
+        "",
+        OK,
+        "{\"end\":true,\"next\":\"2.28935960.2\",\"revision\":2,\"rows\":[[\"2025-01-06T10:00Z\",1],[\"2025-01-06T10:00Z\",2]]}",
+    ),
+];
+
 const CONFLICT_WITH_A_BOOKING: [Exchange<'static>; 4] = [
     (
         POST,
@@ -279,6 +307,7 @@ fn changes_of_the_trial_tables(rt: HostRuntime) -> Result<(), Fail> {
     let alloc = rt.alloc();
     holds(&rt, alloc, TRIAL, &NOTHING_FITS)?;
     holds(&rt, alloc, TRIAL, &TOUCHING_ENDS)?;
+    holds(&rt, alloc, TRIAL, &LATER_LEAF)?;
     holds(&rt, alloc, TRIAL, &CONFLICT_WITH_A_BOOKING)?;
     holds(&rt, alloc, TRIAL, &REFUSED_BOOKINGS)?;
     holds(&rt, alloc, TRIAL, &CANCELLED_ONCE)?;

@@ -16,6 +16,23 @@ const NOTHING_MORE: &str = "{\"end\":true,\"next\":\"0.28936020.3\",\"revision\"
 const AT_TEN: &str =
     "{\"end\":true,\"next\":\"0.28935960.3\",\"revision\":0,\"rows\":[[\"2025-01-06T10:00Z\",1],[\"2025-01-06T10:00Z\",2],[\"2025-01-06T10:00Z\",3]]}";
 
+const FIRST_OF_EACH: &str =
+    "{\"end\":true,\"next\":\"0_1.28936020.1\",\"revision\":0,\"rows\":[[\"2025-01-06T08:00Z\",1],[\"2025-01-06T09:00Z\",1],[\"2025-01-06T10:00Z\",1],[\"2025-01-06T11:00Z\",1]]}";
+
+const TWO_OF_EACH_FIRST: &str =
+    "{\"end\":false,\"next\":\"0_1.28935900.1\",\"revision\":0,\"rows\":[[\"2025-01-06T08:00Z\",1],[\"2025-01-06T08:00Z\",2],[\"2025-01-06T09:00Z\",1]]}";
+
+const TWO_OF_EACH_SECOND: &str =
+    "{\"end\":false,\"next\":\"0_2.28935960.2\",\"revision\":0,\"rows\":[[\"2025-01-06T09:00Z\",2],[\"2025-01-06T10:00Z\",1],[\"2025-01-06T10:00Z\",2]]}";
+
+const TWO_OF_EACH_THIRD: &str =
+    "{\"end\":true,\"next\":\"0_2.28936020.2\",\"revision\":0,\"rows\":[[\"2025-01-06T11:00Z\",1],[\"2025-01-06T11:00Z\",2]]}";
+
+const TWO_OF_EACH_FROM_NINE: &str =
+    "{\"end\":true,\"next\":\"0_2.28936020.2\",\"revision\":0,\"rows\":[[\"2025-01-06T09:00Z\",1],[\"2025-01-06T09:00Z\",2],[\"2025-01-06T10:00Z\",1],[\"2025-01-06T10:00Z\",2],[\"2025-01-06T11:00Z\",1],[\"2025-01-06T11:00Z\",2]]}";
+
+const BAD_PER: &str = "{\"field\":\"per\",\"refused\":\"bad_field\",\"revision\":0}";
+
 const BAD_LIMIT: &str = "{\"field\":\"limit\",\"refused\":\"bad_field\",\"revision\":0}";
 
 const MOVED: &str = "{\"now\":0,\"refused\":\"moved\",\"revision\":0,\"shown\":5}";
@@ -44,6 +61,27 @@ fn pages_of_the_trial_group(rt: HostRuntime) -> Result<(), Fail> {
         ("?limit=501", unprocessable, BAD_LIMIT),
         ("?limit=501&after=5.28935900.2", unprocessable, BAD_LIMIT),
         ("?after=5.28935900.2", "409 Conflict", MOVED),
+        // of each start the first, and the first two, in three pages
+        ("?per=1", OK, FIRST_OF_EACH),
+        ("?per=2&limit=3", OK, TWO_OF_EACH_FIRST),
+        (
+            "?per=2&limit=3&after=0_1.28935900.1",
+            OK,
+            TWO_OF_EACH_SECOND,
+        ),
+        (
+            "?per=2&limit=3&after=0_2.28935960.2",
+            OK,
+            TWO_OF_EACH_THIRD,
+        ),
+        // as many of that start were shown before
+        ("?per=2&after=0_9.28935840.1", OK, TWO_OF_EACH_FROM_NINE),
+        ("?per=0", unprocessable, BAD_PER),
+        ("?per=501", unprocessable, BAD_PER),
+        ("?per=01", not_built, no_body),
+        ("?per=1&per=1", not_built, no_body),
+        ("?after=0_.28935900.2", not_built, no_body),
+        ("?after=0_501.28935900.2", not_built, no_body),
         ("?limit=01", not_built, no_body),
         ("?limit=4&limit=4", not_built, no_body),
         ("?limit=4&", not_built, no_body),
