@@ -1,5 +1,5 @@
 //! What a pass does outside its turns: it reads the shared count, is split, and is joined.
-ghost use Rattle.std.specs.Prelude.{◌≡◌, ◌<◌, ◌≤◌, ℕ, Some, IfOk, IfErr};
+ghost use Rattle.std.specs.Prelude.{◌≡◌, ◌<◌, ◌≤◌, ℕ, Some, IsOk, IfOk, IfErr};
 ghost use Rattle.desk_gate.specs.Histories.{Begins, longer, shorter};
 ghost use Rattle.desk_gate.specs.Views.{read, joined};
 
@@ -40,6 +40,7 @@ impl<V: Counted> Gate<V> {
         ensures view { IfOk result (λ r. (view r.0 ≡ less_part part (view pass)) × (view r.1 ≡ with_part part (view pass))) }
         ensures sound { IfOk result (λ r. IsSound r.0 × IsSound r.1) }
         ensures back { IfErr result (λ p. p ≡ pass) }
+        ensures splits { IsOk result }
     {
         let Pass { mut seat, number } = pass;
         self.table
