@@ -15,13 +15,12 @@ use Rattle.desk_base.specs.Page.{ResumePoint, beginning, next_point, IsAskable, 
 use Rattle.desk_base.specs.Positions.{rows_among}
 use Rattle.desk_base.specs.declared.searches.Found.{Found}
 use Rattle.desk_base.specs.Sound.{IsSound}
-use Rattle.desk_base.specs.Steps.{IsStep, IsTurn, IsAnswer, point_of, refused_limit, refused_per, refused_page}
+use Rattle.desk_base.specs.Steps.{IsTurn, IsAnswer, point_of, refused_limit, refused_per}
 use Rattle.desk_base.specs.declared.changes.Entry.{Entry}
 use Rattle.desk_base.specs.declared.searches.Cursor.{Cursor}
 use Rattle.desk_base.specs.declared.rules.Field.TheVariants.{Limit, Per}
 use Rattle.desk_base.specs.declared.refusals.Refusal.{Refusal}
 use Rattle.desk_base.specs.declared.refusals.Refusal.TheVariants.{BadField}
-use Rattle.desk_base.specs.declared.answers.Command.{Command as Asked}
 use Rattle.desk_base.specs.declared.answers.Command.TheVariants.{Ask}
 use Rattle.desk_base.specs.declared.answers.Query.TheVariants.{Rows as RowsOf}
 use Rattle.desk_base.specs.declared.answers.Outcome.{Outcome}

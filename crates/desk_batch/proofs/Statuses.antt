@@ -1,5 +1,5 @@
 -- The statuses of the ends that a good input may have.
-use Rattle.std.proofs.Common.{◌≡◌, ℕ, ◌⊎◌, inl, inr, refl, ap, ◌∙◌}
+use Rattle.std.proofs.Common.{◌≡◌, ℕ, ◌⊎◌, inl, inr, ap, ◌∙◌}
 use Rattle.desk_talk.specs.Ends.{EndsWell}
 use Rattle.desk_talk.specs.declared.ends.SessionEnd.{SessionEnd}
 use Rattle.desk_batch.specs.Runs.{status_of}

@@ -1,11 +1,10 @@
 -- A turn with its response is an exchange, and one without has a reason.
-use Rattle.std.proofs.Common.{◌≡◌, Option, Some, None, Result, Ok, Err, IfOk, IfErr, IfSome, IfNone, inr, sym, subst}
+use Rattle.std.proofs.Common.{Option, Some, None, Result, Ok, Err, IfOk, IfErr, IfSome, IfNone, inr, sym, subst}
 use Rattle.desk_base.specs.declared.answers.Answer.{Answer}
 use Rattle.desk_base.specs.declared.answers.Command.{Command as Asked}
 use Rattle.desk_wire.specs.declared.rules.Request.{Request}
 use Rattle.desk_wire.specs.declared.responses.Response.{Response}
 use Rattle.desk_talk.specs.declared.ends.Stop.{Stop}
-use Rattle.desk_talk.specs.declared.ends.Stop.TheVariants as stop
 use Rattle.desk_batch.specs.declared.requests.Routed.TheVariants.{Command}
 use Rattle.desk_batch.specs.Exchanges.{Exchanged, IsResponse, IsStopped}
 use Rattle.desk_batch.specs.Requesting.{Reads}

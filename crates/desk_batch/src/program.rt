@@ -10,12 +10,12 @@ ghost use Rattle.desk_talk.specs.Sessions.{Session};
 ghost use Rattle.desk_batch.specs.Turns.{opened_over, OwnTurn, NeverSpent};
 ghost use Rattle.desk_batch.specs.Words.{words_for, tables_of, IsCommand};
 
-use desk_talk::{SessionEnd, converse};
 use crate::turns::{Alone, Serving};
 use crate::words::{Store, Word, store_of, usage};
 use desk_base::{NoMemory, Tables};
 use desk_core::Book;
 use desk_io::{Sink, Source};
+use desk_talk::{SessionEnd, converse};
 use std::alloc::Global;
 
 /// The exit status of a conversation's end.

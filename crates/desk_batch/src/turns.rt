@@ -13,12 +13,12 @@ ghost use Rattle.desk_batch.specs.Runs.{JoinsPages};
 ghost use Rattle.desk_batch.specs.Turns.{OwnTurn, NeverSpent};
 ghost use Rattle.desk_batch.specs.Replies.{answer_response, refusal_response};
 
-use desk_talk::{Replier, Stop};
 use crate::replies::{answer_response, refusal_response};
 use crate::requests::{Routed, WebRefusal, read_request};
 use desk_base::{Answer, Command};
 use desk_core::Book;
 use desk_json::laws::changes_are_of_listed_forms;
+use desk_talk::{Replier, Stop};
 use desk_wire::{Request, Response};
 use std::alloc::Global;
 

@@ -1,5 +1,4 @@
-use Rattle.std.proofs.Common.{refl, sym, ap, subst, ◌∙◌}
-use Rattle.desk_base.specs.Sound.{IsSound}
+use Rattle.std.proofs.Common.{refl}
 use Rattle.desk_talk.proofs.Completeness.{completes}
 use Rattle.desk_talk.proofs.Nothing.{nothing_session}
 use Rattle.desk_talk.specs.declared.ends.SessionEnd.TheVariants.{NoMemory}
@@ -7,7 +6,6 @@ use Rattle.desk_batch.specs.Exchanges.{Exchanged, IsStopped}
 use Rattle.desk_batch.specs.Runs.{JoinsPages}
 use Rattle.desk_batch.specs.Turns.{opened_over, OwnTurn, NeverSpent}
 use Rattle.desk_batch.specs.Words.{tables_of}
-use Rattle.desk_batch.proofs.EmptySound.{store_sound}
 use Rattle.desk_batch.proofs.ShownLemmas.{joins_pages}
 use Rattle.desk_batch.proofs.Statuses.{well_status}
 use Rattle.desk_batch.proofs.program.batch.Goals as goal

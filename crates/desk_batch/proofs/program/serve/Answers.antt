@@ -1,4 +1,4 @@
-use Rattle.std.proofs.Common.{refl, sym, ap, subst}
+use Rattle.std.proofs.Common.{subst}
 use Rattle.desk_core.specs.Books.{BookState}
 use Rattle.desk_talk.specs.Sessions.{Turns}
 use Rattle.desk_talk.proofs.Carried.{carried_turns, carried_session}
