@@ -1,5 +1,8 @@
 //! Worked clashes over the trial tables and small changes of them: 1 and 2 work on Monday, 2025-01-06, from 08:00 to 12:00, and 3
 //! from 10:00.
+ghost use Rattle.std.specs.Prelude.{◌≡◌, true};
+ghost use Rattle.desk_base.specs.Efforts.{AreLight, AreLightBookings};
+
 use desk_base::{
     Ask, BookingId, BookingRow, Clash, GroupId, Kind, MemberRow, Minute, Name, NoMemory, OffRow,
     ResourceId, ResourceRow, Shown, SiteId, Tables, UnitId, Window,
@@ -64,6 +67,21 @@ fn answered(found: Result<Option<Clash>, NoMemory>) -> Option<Option<Values>> {
     }
 }
 
+/// The effort of a booking, at most.
+const MOST_EFFORT: u32 = 1000;
+
+fn are_light_bookings(bookings: &[BookingRow]) -> bool
+    ensures { result ≡ true → AreLightBookings bookings.now }
+{
+    bookings.iter().all(|b| b.effort <= MOST_EFFORT)
+}
+
+fn are_light(asks: &[Ask]) -> bool
+    ensures { result ≡ true → AreLight asks.now }
+{
+    asks.iter().all(|a| a.effort <= MOST_EFFORT)
+}
+
 /// The clash of what is asked for with standing bookings, each with its number. The outer `None` is want of memory.
 fn clash_of(
     alloc: Global,
@@ -82,7 +100,7 @@ fn clash_of(
     if bookings.len() > 100 || asks.len() > 100 || tables.members.len() > 100 {
         return None;
     }
-    if !bookings.iter().all(|b| b.effort <= 1000) || !asks.iter().all(|a| a.effort <= 1000) {
+    if !are_light_bookings(bookings.as_slice()) || !are_light(asks.as_slice()) {
         return None;
     }
     answered(clash(alloc, tables, bookings.as_slice(), asks.as_slice()))

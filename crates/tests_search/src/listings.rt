@@ -1,7 +1,8 @@
 //! The listing of the trial group and its pages, with all rows of a start and with the first ones alone. Minute 28,935,840 is
 //! Monday 2025-01-06T08:00Z; Ann (1) and Bob (2) work from 08:00, and Cyd (3) from 10:00.
-ghost use Rattle.std.specs.Prelude.{map, IfOk};
+ghost use Rattle.std.specs.Prelude.{◌≡◌, true, None, map, IfOk};
 ghost use Rattle.desk_base.specs.Load.{Fits, ask_of};
+ghost use Rattle.desk_base.specs.Page.{IsAskable};
 ghost use Rattle.desk_base.specs.Sound.{AreWellFormed};
 
 use desk_base::laws::{sound_tables_are_well_formed, standing_bookings_fit, trial_is_sound};
@@ -51,12 +52,25 @@ fn trial(alloc: Global) -> Result<Tables, NoMemory>
     Ok(tables)
 }
 
-fn options(per: Option<u32>) -> Options {
+fn options(per: Option<u32>) -> Options
+    ensures { result ≡ record { from = None; to = None; per = per } }
+{
     Options {
         from: None,
         to: None,
         per,
     }
+}
+
+/// Whether a page may have so many rows, and so many of each start.
+fn is_askable(options: &Options, limit: u16) -> bool
+    ensures { result ≡ true → IsAskable options.now limit }
+{
+    let of_start = match options.per {
+        Some(per) => 1 <= per && per <= 500,
+        None => true,
+    };
+    of_start && 1 <= limit && limit <= 500
 }
 
 fn is_one(picks: &Picks, resource: u32) -> bool {
@@ -106,7 +120,7 @@ fn page_of(
     let options = options(per);
     match tables.groups.as_slice() {
         [group, ..] => {
-            if limit < 1 || limit > 500 || per.is_some_and(|per| per < 1 || per > 500) {
+            if !is_askable(&options, limit) {
                 return Err(NoMemory);
             }
             page(alloc, &tables, group, &options, after, shown, limit)
