@@ -6,6 +6,7 @@ mod CursorTexts
 -- Texts of answers.
 mod Runs
 mod Floats
+mod PageTexts
 -- What bodies are read as.
 mod MomentReadings
 mod EachRead

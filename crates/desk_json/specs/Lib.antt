@@ -8,6 +8,7 @@ pub mod Pages
 pub mod Receipts
 pub mod Refusals
 pub mod Answers
+pub mod AnsweredPages
 pub mod Faults
 pub mod MomentReading
 pub mod Reading

@@ -1,10 +1,14 @@
-//! Laws of cursors and of bodies: each is the contract of a function that does nothing.
+//! Laws of cursors, of pages and of bodies: each is the contract of a function that does nothing.
 ghost use Rattle.std.specs.Prelude.{◌≡◌, ◌≢◌, ◌⊎◌, ◌<◌, ◌==◌, ℕ, false, Ok, All};
 ghost use Rattle.serde_json.specs.Data.{Data};
+ghost use Rattle.serde_json.specs.Written.{compact_text};
 ghost use Rattle.desk_base.specs.declared.searches.Cursor.{Cursor};
+ghost use Rattle.desk_base.specs.declared.searches.Page.{Page};
 ghost use Rattle.desk_base.specs.declared.answers.Command.{Command};
 ghost use Rattle.desk_json.specs.Cursors.{cursor_text};
 ghost use Rattle.desk_json.specs.CursorReading.{IsCursor};
+ghost use Rattle.desk_json.specs.Pages.{page_data};
+ghost use Rattle.desk_json.specs.AnsweredPages.{IsAnswered, told};
 ghost use Rattle.desk_json.specs.Bodies.{change_in};
 ghost use Rattle.desk_json.specs.Asked.{IsAsked};
 
@@ -16,6 +20,12 @@ pub fn texts_have_one_cursor()
 /// The text of a cursor has no bytes but digits, points, dashes (45) and underlines (95).
 pub fn cursor_texts_are_plain()
     ensures { (byte : ℕ) (c : Cursor) → (byte < 45) ⊎ (57 < byte) → byte ≢ 95 → IsCursor c → All (λ x. (x == byte) ≡ false) (cursor_text c) }
+{}
+
+/// A text is the text of one answered page, over one revision: it tells the rows, whether the search ends with them, where the next
+/// page begins, and, where one does, how many rows were shown.
+pub fn texts_have_one_page()
+    ensures { (r s : ℕ) (p q : Page) → IsAnswered r p → IsAnswered s q → compact_text (page_data r p) ≡ compact_text (page_data s q) → (r ≡ s) × (told p ≡ told q) }
 {}
 
 /// What a body asks for is of the listed forms.
