@@ -408,11 +408,14 @@ module _ (leaves : ℕ) where
         let there : IsIn n qs = subst (IsIn n) (sym h.whole) (in_right n h.before (n ∷ h.behind) (inl refl)) in
         let total = total_is (rows_at_is n.start (front ++ n ∷ [])) (first n.start (later n there)) in
         let whole_sorted = subst (IsStrictlySortedBy position_cmp) h.whole sorted in
-        let shown = min (rows_at (rows_among leaves (front ++ n ∷ [])) n.start + shown_before point.after point.shown n.start) page_limit in
-        (h.before, h.behind, h.whole,
-        due_by per (Some n) shown [] h.behind n.start shown (sorted_tail (n ∷ []) h.behind (sorted_tail h.before (n ∷ h.behind) whole_sorted)) (λ q i. start_not_before h.before h.behind n q whole_sorted i) (has_shown_first (Some n) shown)
-        ∙ due_capped per n.start (rows_at (rows_among leaves (front ++ n ∷ [])) n.start + shown_before point.after point.shown n.start) h.behind small
-        ∙ ap (λ k. due_from leaves per n.start k h.behind) total ∙ h.rest_is)
+        let shown = min (rows_at (rows_among leaves (front ++ n ∷ [])) n.start + shown_before point.after point.shown n.start) page_limit in (
+          h.before,
+          h.behind,
+          h.whole,
+          due_by per (Some n) shown [] h.behind n.start shown (sorted_tail (n ∷ []) h.behind (sorted_tail h.before (n ∷ h.behind) whole_sorted)) (λ q i. start_not_before h.before h.behind n q whole_sorted i) (has_shown_first (Some n) shown)
+              ∙ due_capped per n.start (rows_at (rows_among leaves (front ++ n ∷ [])) n.start + shown_before point.after point.shown n.start) h.behind small
+              ∙ ap (λ k. due_from leaves per n.start k h.behind) total ∙ h.rest_is,
+        )
       where
         total_is : rows_at (rows_among leaves (front ++ n ∷ [])) n.start ≡ full_at n.start (front ++ n ∷ [])
             → full_at n.start [] + shown_before point.after point.shown n.start ≡ counted (start_of point.after) (count_of point.after point.shown) n.start

@@ -84,9 +84,10 @@ answer_is t g group o cursor latest limit page there (passes, (h, found, is)) =
     let some : Some h ≡ Some g = sym found ∙ there in
     let same : h ≡ g = cc in
     let counts = first_passes _ _ (first_passes _ _ passes).1 in
-    let per = first_passes _ _ counts.1 in
-    (record { rows = within_step limit (is_within_range 1 page_limit limit) (BadField Limit) refl counts.0; of_start = per_within o.per per.0 },
-    subst (λ (x : GroupRow). IsPage t x o (point_of cursor) limit page) same is)
+    let per = first_passes _ _ counts.1 in (
+      record { rows = within_step limit (is_within_range 1 page_limit limit) (BadField Limit) refl counts.0; of_start = per_within o.per per.0 },
+      subst (λ (x : GroupRow). IsPage t x o (point_of cursor) limit page) same is,
+    )
 
 turn_is : (t : Tables) (journal : List Entry) (u : Tables) (journal' : List Entry) (g : GroupRow) (group : ℕ) (o : Options) (cursor : Option Cursor) (latest : Bool) (limit : ℕ) (page : Page)
     → IsTurn t journal 0 (Ask (RowsOf group o cursor latest limit)) (Done (Rows page)) u journal' → group_of u group ≡ Some g → IsAskable o limit × IsPage u g o (point_of cursor) limit page

@@ -5,6 +5,9 @@
 //! there was none.
 #![tactic(auto)]
 
+ghost use Rattle.std.specs.Prelude.{◌≡◌, true};
+ghost use Rattle.desk_base.specs.Efforts.{AreLight, AreLightBookings};
+
 use desk_base::{
     Ask, BookingId, BookingRow, CalendarId, CalendarRow, Clash, GroupId, Kind, Minute, Name,
     NoMemory, ResourceId, ResourceRow, Shown, SiteId, Tables, UnitId, Window, WorkRow, ZoneId,
@@ -127,6 +130,18 @@ fn bookings(alloc: Global, resource: ResourceId) -> Result<Vec<BookingRow>, Allo
     Ok(rows)
 }
 
+fn are_light_bookings(bookings: &[BookingRow]) -> bool
+    ensures { result ≡ true → AreLightBookings bookings.now }
+{
+    bookings.iter().all(|b| b.effort <= MOST_EFFORT)
+}
+
+fn are_light(asks: &[Ask]) -> bool
+    ensures { result ≡ true → AreLight asks.now }
+{
+    asks.iter().all(|a| a.effort <= MOST_EFFORT)
+}
+
 /// Whether the bookings fit with those that are asked for; `None` where there are too many rows, or efforts that are too great.
 fn fit(
     alloc: Global,
@@ -137,7 +152,7 @@ fn fit(
     if standing.len() > 100 || asked.len() > 100 || tables.members.len() > 100 {
         return Ok(None);
     }
-    if !standing.iter().all(|b| b.effort <= MOST_EFFORT) || !asked.iter().all(|a| a.effort <= MOST_EFFORT) {
+    if !are_light_bookings(standing) || !are_light(asked) {
         return Ok(None);
     }
     match clash(alloc, tables, standing, asked)? {

@@ -250,9 +250,9 @@ fn discard(book: Book) {
 
 fn effort_of(outcome: &Outcome) -> Option<u64> {
     match outcome {
-        Outcome::Done(Reply::Change(Receipt::Booked {
-            effort_minutes, ..
-        })) => Some(*effort_minutes),
+        Outcome::Done(Reply::Change(Receipt::Booked { effort_minutes, .. })) => Some(
+            *effort_minutes,
+        ),
         _ => None,
     }
 }

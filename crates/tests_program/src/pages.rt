@@ -69,11 +69,7 @@ fn pages_of_the_trial_group(rt: HostRuntime) -> Result<(), Fail> {
             OK,
             TWO_OF_EACH_SECOND,
         ),
-        (
-            "?per=2&limit=3&after=0_2.28935960.2",
-            OK,
-            TWO_OF_EACH_THIRD,
-        ),
+        ("?per=2&limit=3&after=0_2.28935960.2", OK, TWO_OF_EACH_THIRD),
         // as many of that start were shown before
         ("?per=2&after=0_9.28935840.1", OK, TWO_OF_EACH_FROM_NINE),
         ("?per=0", unprocessable, BAD_PER),

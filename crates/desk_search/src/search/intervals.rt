@@ -124,7 +124,15 @@ fn due_of_each(
     let rows = rows_among(alloc, leaves, positions)?;
     let mut due = Items::new(alloc);
     for position in positions {
-        push_if_due(alloc, rows.as_slice(), per, after, shown, position, &mut due)?;
+        push_if_due(
+            alloc,
+            rows.as_slice(),
+            per,
+            after,
+            shown,
+            position,
+            &mut due,
+        )?;
     }
     Ok(due)
 }

@@ -1,7 +1,7 @@
 //! What commands came to, as plain values that can be compared.
 use desk_base::{
-    Answer, Clash, Field, LeafRule, Outcome, Page, Position, Receipt, Refusal, Reply, ResourceId, Shown,
-    Table,
+    Answer, Clash, Field, LeafRule, Outcome, Page, Position, Receipt, Refusal, Reply, ResourceId,
+    Shown, Table,
 };
 
 /// What a change gave.
