@@ -133,13 +133,19 @@ fn bookings(alloc: Global, resource: ResourceId) -> Result<Vec<BookingRow>, Allo
 fn are_light_bookings(bookings: &[BookingRow]) -> bool
     ensures { result ≡ true → AreLightBookings bookings.now }
 {
-    bookings.iter().all(|b| b.effort <= MOST_EFFORT)
+    match bookings {
+        [first, others @ ..] => first.effort <= MOST_EFFORT && are_light_bookings(others),
+        [] => true,
+    }
 }
 
 fn are_light(asks: &[Ask]) -> bool
     ensures { result ≡ true → AreLight asks.now }
 {
-    asks.iter().all(|a| a.effort <= MOST_EFFORT)
+    match asks {
+        [first, others @ ..] => first.effort <= MOST_EFFORT && are_light(others),
+        [] => true,
+    }
 }
 
 /// Whether the bookings fit with those that are asked for; `None` where there are too many rows, or efforts that are too great.

@@ -73,13 +73,19 @@ const MOST_EFFORT: u32 = 1000;
 fn are_light_bookings(bookings: &[BookingRow]) -> bool
     ensures { result ≡ true → AreLightBookings bookings.now }
 {
-    bookings.iter().all(|b| b.effort <= MOST_EFFORT)
+    match bookings {
+        [first, others @ ..] => first.effort <= MOST_EFFORT && are_light_bookings(others),
+        [] => true,
+    }
 }
 
 fn are_light(asks: &[Ask]) -> bool
     ensures { result ≡ true → AreLight asks.now }
 {
-    asks.iter().all(|a| a.effort <= MOST_EFFORT)
+    match asks {
+        [first, others @ ..] => first.effort <= MOST_EFFORT && are_light(others),
+        [] => true,
+    }
 }
 
 /// The clash of what is asked for with standing bookings, each with its number. The outer `None` is want of memory.
