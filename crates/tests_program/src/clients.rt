@@ -9,31 +9,34 @@ use std::cell::Cell;
 use std::process::Abort;
 use std::test::Fail;
 
-/// What a client sends once it has received so many bytes: requests, or nothing, which ends its input.
-type Step<'a> = (usize, &'a [u8]);
+/// What a client sends once it has received so many bytes: a piece of its requests, or nothing, which ends its input.
+type Step = (usize, Vec<u8>);
 
 /// The sending end of a client. It fails where it is asked while it waits for an answer.
 #[derive(Drop)]
-struct Sending<'r, 's, 'p> {
-    received: &'r Cell<usize>,
-    steps: &'s [Step<'p>],
+struct Sending<'a> {
+    received: &'a Cell<usize>,
+    steps: Vec<Step>,
+    /// The number of the next step.
+    next: usize,
     faults: u64,
 }
 
-impl Source for Sending<'_, '_, '_> {
+impl Source for Sending<'_> {
     ghost fault_count = { λ s. s.faults };
 
     fn take(&mut self, into: &mut [u8]) -> Result<usize, Failed> {
-        let [(wanted, piece), later @ ..] = self.steps else {
+        let Some((wanted, piece)) = self.steps.get(self.next) else {
             return Ok(0);
         };
-        if self.received.get() < *wanted || piece.len() > into.len() {
+        let length = piece.len();
+        if self.received.get() < *wanted || length > into.len() {
             self.faults = self.faults.saturating_add(1);
             return Err(Failed);
         }
-        into[..piece.len()].copy_from_slice(piece);
-        self.steps = later;
-        Ok(piece.len())
+        into[..length].copy_from_slice(piece.as_slice());
+        self.next = self.next.saturating_add(1);
+        Ok(length)
     }
 
     fn faults(&self) -> u64 {
@@ -62,12 +65,13 @@ impl Sink for Receiving<'_> {
 }
 
 /// Runs the program with a client of these steps, and compares its status and how many bytes the client received.
-fn is_served(rt: &impl Abort, alloc: Global, steps: &[Step], bytes: usize) -> Result<(), Fail> {
+fn is_served(rt: &impl Abort, alloc: Global, steps: Vec<Step>, bytes: usize) -> Result<(), Fail> {
     let words = words_of(alloc, TRIAL)?;
     let received = Cell::new(0);
     let mut source = Sending {
         received: &received,
         steps,
+        next: 0,
         faults: 0,
     };
     let mut sink = Receiving {
@@ -79,23 +83,44 @@ fn is_served(rt: &impl Abort, alloc: Global, steps: &[Step], bytes: usize) -> Re
     Ok(())
 }
 
+fn push(alloc: Global, steps: &mut Vec<Step>, wanted: usize, piece: &[u8]) -> Result<(), Fail> {
+    steps.push((wanted, piece.to_vec(alloc)?))?;
+    Ok(())
+}
+
 #[test]
-fn a_client_is_answered_before_it_is_asked_for_more(rt: HostRuntime) -> Result<(), Fail> {
+fn a_client_that_waits_for_each_answer(rt: HostRuntime) -> Result<(), Fail> {
+    let alloc = rt.alloc();
+    let one = LISTING.len();
+    let mut steps = Vec::new(alloc);
+    push(alloc, &mut steps, 0, ROWS)?;
+    push(alloc, &mut steps, one, ROWS)?;
+    push(alloc, &mut steps, 2 * one, b"")?;
+    is_served(&rt, alloc, steps, 2 * one)
+}
+
+#[test]
+fn a_client_that_sends_two_requests_and_waits_for_both(rt: HostRuntime) -> Result<(), Fail> {
     let alloc = rt.alloc();
     let one = LISTING.len();
     let mut two = ROWS.to_vec(alloc)?;
     two.extend_from_slice(ROWS)?;
+    let mut steps = Vec::new(alloc);
+    push(alloc, &mut steps, 0, two.as_slice())?;
+    push(alloc, &mut steps, 2 * one, b"")?;
+    is_served(&rt, alloc, steps, 2 * one)
+}
+
+#[test]
+fn a_client_that_sends_halves(rt: HostRuntime) -> Result<(), Fail> {
+    let alloc = rt.alloc();
+    let one = LISTING.len();
     let half = ROWS.len() / 2;
-    let waits_for_each = [(0, ROWS), (one, ROWS), (2 * one, b"")];
-    let sends_two_at_once = [(0, two.as_slice()), (2 * one, b"")];
-    let sends_halves = [
-        (0, &ROWS[..half]),
-        (0, &ROWS[half..]),
-        (one, &ROWS[..half]),
-        (one, &ROWS[half..]),
-        (2 * one, b""),
-    ];
-    is_served(&rt, alloc, &waits_for_each, 2 * one)?;
-    is_served(&rt, alloc, &sends_two_at_once, 2 * one)?;
-    is_served(&rt, alloc, &sends_halves, 2 * one)
+    let mut steps = Vec::new(alloc);
+    push(alloc, &mut steps, 0, &ROWS[..half])?;
+    push(alloc, &mut steps, 0, &ROWS[half..])?;
+    push(alloc, &mut steps, one, &ROWS[..half])?;
+    push(alloc, &mut steps, one, &ROWS[half..])?;
+    push(alloc, &mut steps, 2 * one, b"")?;
+    is_served(&rt, alloc, steps, 2 * one)
 }
