@@ -1,5 +1,5 @@
 use Rattle.std.proofs.Common.{sym, subst}
-use Rattle.desk_base.specs.Types.{Tables}
+use Rattle.desk_base.specs.declared.tables.Tables.{Tables}
 use Rattle.desk_base.specs.Lookups.{KeysRise}
 use Rattle.desk_base.proofs.KeyRises.{rise-no_rows}
 use Rattle.tests_model.proofs.changes.prepared.Goals as goal
