@@ -1,19 +1,19 @@
 //! Laws of the definitions: each is the contract of a function that does nothing.
 ghost use Rattle.std.specs.Prelude.{◌≡◌, ◌+◌, ◌++◌, ◌∷◌, ◌≤◌, ◌<◌, ℕ, List, Option, Some, None, false, length, map, sum_by, Contains};
-ghost use Rattle.desk_base.specs.Histories.{IsLegal, IsNumbered};
-ghost use Rattle.desk_base.specs.Trees.{tree_by, children, trees_of, leaf_count, is_leaf};
-ghost use Rattle.desk_base.specs.TreeRules.{tree_fault};
-ghost use Rattle.desk_base.specs.Picks.{leaves_under};
-ghost use Rattle.desk_base.specs.declared.changes.Entry.{Entry};
-ghost use Rattle.desk_base.specs.Types.{Tables, GroupRow, Node, BookingRow, Found, Position, Options, Ask, Page};
-ghost use Rattle.desk_base.specs.Load.{weight, own_load, members, sort_of, pool, Fits, ask_of, IsClash};
-ghost use Rattle.desk_base.specs.Listing.{IsLive, IsRow, AreRows, IsListing, IsLiveList};
-ghost use Rattle.desk_base.specs.Page.{ResumePoint, beginning, passed_of, IsPage, AreResumed, Joins, PassesOne, IsShortest};
-ghost use Rattle.desk_base.specs.Positions.{position_at, found_of, rows_among};
-ghost use Rattle.desk_base.specs.Sound.{IsSound, AreWellFormed};
-ghost use Rattle.desk_base.specs.Trial.{trial};
-ghost use Rattle.desk_base.specs.Verdicts.{IsVerdict};
-ghost use Rattle.desk_base.specs.declared.rules.Verdict.{Verdict};
+ghost use Rattle.desk_base.specs.asked.Histories.{IsLegal, IsNumbered};
+ghost use Rattle.desk_base.specs.meaning.Trees.{tree_by, children, trees_of, leaf_count, is_leaf};
+ghost use Rattle.desk_base.specs.rules.TreeRules.{tree_fault};
+ghost use Rattle.desk_base.specs.meaning.Picks.{leaves_under};
+ghost use Rattle.desk_base.specs.declared.asked.acts.Entry.{Entry};
+ghost use Rattle.desk_base.specs.rows.Types.{Tables, GroupRow, Node, BookingRow, Found, Position, Options, Ask, Page};
+ghost use Rattle.desk_base.specs.meaning.Load.{weight, own_load, members, sort_of, pool, Fits, ask_of, IsClash};
+ghost use Rattle.desk_base.specs.search.Listing.{IsLive, IsRow, AreRows, IsListing, IsLiveList};
+ghost use Rattle.desk_base.specs.search.Page.{ResumePoint, beginning, passed_of, IsPage, AreResumed, Joins, PassesOne, IsShortest};
+ghost use Rattle.desk_base.specs.search.Positions.{position_at, found_of, rows_among};
+ghost use Rattle.desk_base.specs.rules.Sound.{IsSound, AreWellFormed};
+ghost use Rattle.desk_base.specs.rows.Trial.{trial};
+ghost use Rattle.desk_base.specs.search.Verdicts.{IsVerdict};
+ghost use Rattle.desk_base.specs.declared.asked.rules.Verdict.{Verdict};
 
 /// There are sound tables with a group: the trial tables.
 pub fn trial_is_sound()

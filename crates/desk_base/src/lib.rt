@@ -5,58 +5,39 @@
 //! rows of a search are feasible, in which order they come, and which tables are sound.
 #![tactic(auto)]
 
-mod answers;
-mod booking_rows;
-mod calendar_rows;
-mod change_copies;
+mod asked;
 mod changes;
-mod copying;
-mod formers;
-mod found_rows;
-mod group_rows;
-mod ids;
-mod items;
-mod keys;
 pub mod laws;
-mod lookups;
-mod memory;
-mod minutes;
-mod names;
-mod open_tables;
-mod order;
-mod prepared;
-mod refusals;
-mod resource_rows;
+pub mod limits;
 mod rows;
-mod rules;
-mod searches;
-mod serials;
-mod tables;
+mod search;
 mod trial;
-mod tried;
+mod values;
 
-pub use answers::{Answer, Command, Outcome, Query, Reply};
-pub use booking_rows::{BookingRow, CallerRow, Receipt};
-pub use calendar_rows::{BreakRow, CalendarRow, DayRow, OffRow, Shifts, WorkRow, ZoneRow};
-pub use changes::{Act, AnyRows, Call, Change, Entry, Keys};
-pub use copying::Duplicate;
-pub use group_rows::{
+pub use asked::acts::{Act, AnyRows, Call, Change, Entry, Keys};
+pub use asked::answers::{Answer, Command, Outcome, Query, Reply};
+pub use asked::refusals::{Clash, Refusal, Shown};
+pub use asked::rules::{Field, LeafRule, TableRule, TreeRule, Verdict};
+pub use changes::prepared::Prepared;
+pub use changes::tried::Tried;
+pub use rows::bookings::{BookingRow, CallerRow, Receipt};
+pub use rows::calendars::{BreakRow, CalendarRow, DayRow, OffRow, Shifts, WorkRow, ZoneRow};
+pub use rows::groups::{
     GroupRow, Kinds, Leaf, LeafNo, Leaves, Node, NodeKind, NodeNo, Nodes, Ratings, Resources,
     Roles, Same, Territories, Units,
 };
-pub use ids::{
+pub use rows::ranges::{Placed, Timed, covering, nearer, next_bound, row_of, rows_at, rows_of};
+pub use rows::resources::{HasRow, Kind, MemberRow, NamedRow, ResourceRow};
+pub use rows::tables::{AnyRow, Key, Table, Tables};
+pub use search::results::{Ask, Cursor, Found, Founds, Options, Page, Picks, Position};
+pub use values::copying::Duplicate;
+pub use values::ids::{
     CalendarId, CallerId, CharacteristicId, GroupId, Id, ResourceId, RoleId, SiteId, TerritoryId,
     UnitId, ZoneId,
 };
-pub use items::Items;
-pub use memory::NoMemory;
-pub use minutes::{Minute, Window};
-pub use names::Name;
-pub use prepared::Prepared;
-pub use refusals::{Clash, Refusal, Shown};
-pub use resource_rows::{HasRow, Kind, MemberRow, NamedRow, ResourceRow};
-pub use rules::{Field, LeafRule, TableRule, TreeRule, Verdict};
-pub use searches::{Ask, Cursor, Found, Founds, Options, Page, Picks, Position};
-pub use serials::{BookingId, CallNumber, Serial};
-pub use tables::{AnyRow, Key, Table, Tables};
-pub use tried::Tried;
+pub use values::items::{Bytes, Items};
+pub use values::memory::NoMemory;
+pub use values::minutes::{Minute, Window};
+pub use values::names::Name;
+pub use values::serials::{BookingId, CallNumber, Serial};
+pub use values::steps::Steps;

@@ -1,17 +1,18 @@
 //! The trial tables, on which a new desk is tried.
 ghost use Rattle.std.specs.Prelude.{◌≡◌, ◌∷◌, [], IfOk, Some, ◌≤◌};
-ghost use Rattle.desk_base.specs.Limits.{id_limit};
-ghost use Rattle.desk_base.specs.Trial.{trial, trial_group, trial_resource, work_on_monday, plain_leaf};
+ghost use Rattle.desk_base.specs.rules.Limits.{id_limit};
+ghost use Rattle.desk_base.specs.rows.Trial.{trial, trial_group, trial_resource, work_on_monday, plain_leaf};
 
-use crate::calendar_rows::{CalendarRow, WorkRow, ZoneRow};
-use crate::group_rows::{GroupRow, Leaf, Node, NodeKind, Same};
-use crate::ids::{CalendarId, GroupId, ResourceId, SiteId, UnitId, ZoneId};
-use crate::items::Items;
-use crate::memory::NoMemory;
-use crate::minutes::Minute;
-use crate::names::Name;
-use crate::resource_rows::{Kind, NamedRow, ResourceRow};
-use crate::tables::Tables;
+use crate::limits::FIRST_MINUTE;
+use crate::rows::calendars::{CalendarRow, WorkRow, ZoneRow};
+use crate::rows::groups::{GroupRow, Leaf, Node, NodeKind, Same};
+use crate::rows::resources::{Kind, NamedRow, ResourceRow};
+use crate::rows::tables::Tables;
+use crate::values::ids::{CalendarId, GroupId, ResourceId, SiteId, UnitId, ZoneId};
+use crate::values::items::Items;
+use crate::values::memory::NoMemory;
+use crate::values::minutes::Minute;
+use crate::values::names::Name;
 use std::alloc::Global;
 
 fn one<T: Drop>(alloc: Global, item: T) -> Result<Items<T>, NoMemory>
@@ -147,7 +148,7 @@ fn zone(alloc: Global) -> Result<ZoneRow, NoMemory>
     Ok(ZoneRow {
         id: ZoneId::of(1).unwrap(),
         name: Name::of(alloc, "UTC")?,
-        shifts: one(alloc, (15_778_080, 0))?,
+        shifts: one(alloc, (FIRST_MINUTE, 0))?,
     })
 }
 

@@ -2,14 +2,14 @@
 use Rattle.std.proofs.Common.{◌≤◌, ◌&&◌, nat_le, refl, arith}
 use Rattle.std.proofs.lemmas.Bool.Decides.{nat_tests}
 use Rattle.std.specs.List.{list_all}
-use Rattle.desk_base.specs.declared.tables.Tables.{Tables}
-use Rattle.desk_base.specs.declared.tables.Table.TheVariants.{Booking}
-use Rattle.desk_base.specs.declared.rules.TableRule.TheVariants.{Count}
-use Rattle.desk_base.specs.declared.booking_rows.BookingRow.{BookingRow}
-use Rattle.desk_base.specs.Keys.{id_key}
-use Rattle.desk_base.specs.Limits.{revision_limit, serial_limit}
-use Rattle.desk_base.specs.Sound.{IsSound}
-use Rattle.desk_base.proofs.Tests.{and_left}
+use Rattle.desk_base.specs.declared.rows.tables.Tables.{Tables}
+use Rattle.desk_base.specs.declared.rows.tables.Table.TheVariants.{Booking}
+use Rattle.desk_base.specs.declared.asked.rules.TableRule.TheVariants.{Count}
+use Rattle.desk_base.specs.declared.rows.bookings.BookingRow.{BookingRow}
+use Rattle.desk_base.specs.rows.Keys.{id_key}
+use Rattle.desk_base.specs.rules.Limits.{revision_limit, serial_limit}
+use Rattle.desk_base.specs.rules.Sound.{IsSound}
+use Rattle.desk_base.proofs.lists.Tests.{and_left}
 
 -- the revision is within its limit
 pub revision_within : (t : Tables) → IsSound t → t.revision ≤ revision_limit

@@ -2,19 +2,19 @@
 use Rattle.std.proofs.Common.{◌≡◌, [], ◌∷◌, length, Option, Some, None, refl, sym, ap, ◌∙◌}
 use Rattle.std.specs.Option.{option_or}
 use Rattle.std.specs.Prelude.{List, option_map}
-use Rattle.desk_base.specs.declared.tables.Tables.{Tables}
-use Rattle.desk_base.specs.declared.group_rows.Node.{Node}
-use Rattle.desk_base.specs.declared.group_rows.GroupRow.{GroupRow}
-use Rattle.desk_base.specs.declared.group_rows.Leaf.{Leaf}
-use Rattle.desk_base.specs.declared.refusals.Refusal.{Refusal}
-use Rattle.desk_base.specs.declared.refusals.Refusal.TheVariants.{BadTree}
-use Rattle.desk_base.specs.declared.changes.Act.{Act}
-use Rattle.desk_base.specs.declared.changes.Act.TheVariants as act
-use Rattle.desk_base.specs.declared.changes.Call.{Call}
-use Rattle.desk_base.specs.declared.changes.Entry.{Entry}
-use Rattle.desk_base.specs.Callers.{last_number}
-use Rattle.desk_base.specs.TreeRules.{tree_fault}
-use Rattle.desk_base.specs.Refusing.{refused_entry, refused_number, unknown_among, cited_by, refused_field, refused_tree, refused_removal, refused_place, refused_booked, refused_open, early_refusal}
+use Rattle.desk_base.specs.declared.rows.tables.Tables.{Tables}
+use Rattle.desk_base.specs.declared.rows.groups.Node.{Node}
+use Rattle.desk_base.specs.declared.rows.groups.GroupRow.{GroupRow}
+use Rattle.desk_base.specs.declared.rows.groups.Leaf.{Leaf}
+use Rattle.desk_base.specs.declared.asked.refusals.Refusal.{Refusal}
+use Rattle.desk_base.specs.declared.asked.refusals.Refusal.TheVariants.{BadTree}
+use Rattle.desk_base.specs.declared.asked.acts.Act.{Act}
+use Rattle.desk_base.specs.declared.asked.acts.Act.TheVariants as act
+use Rattle.desk_base.specs.declared.asked.acts.Call.{Call}
+use Rattle.desk_base.specs.declared.asked.acts.Entry.{Entry}
+use Rattle.desk_base.specs.asked.Callers.{last_number}
+use Rattle.desk_base.specs.rules.TreeRules.{tree_fault}
+use Rattle.desk_base.specs.asked.Refusing.{refused_entry, refused_number, unknown_among, cited_by, refused_field, refused_tree, refused_removal, refused_place, refused_booked, refused_open, early_refusal}
 use Rattle.desk_core.specs.Built.{IsServed, HasPlainLeaf, lone_leaf}
 
 pub or-none : {A : Type 0} (x : Option A) → option_or x None ≡ x

@@ -3,25 +3,25 @@ use Rattle.std.proofs.Common.{◌≡◌, ℕ, zero, suc, ◌+◌, ◌<◌, ◌�
 use Rattle.std.proofs.lemmas.Bool.Decides.{nat_tests}
 use Rattle.std.proofs.lemmas.List.{length-map}
 use Rattle.std.specs.Prelude.{Contains}
-use Rattle.desk_base.specs.declared.tables.Tables.{Tables}
-use Rattle.desk_base.specs.declared.group_rows.GroupRow.{GroupRow}
-use Rattle.desk_base.specs.declared.group_rows.Leaf.{Leaf}
-use Rattle.desk_base.specs.declared.booking_rows.BookingRow.{BookingRow}
-use Rattle.desk_base.specs.declared.tables.Key.{Key}
-use Rattle.desk_base.specs.declared.tables.Table.TheVariants.{Group as GroupTable, Booking as BookingTable}
-use Rattle.desk_base.specs.declared.tables.AnyRow.TheVariants.{Group, Booking}
-use Rattle.desk_base.specs.declared.rules.TableRule.TheVariants.{Citation, Booked}
-use Rattle.desk_base.specs.Limits.{node_limit}
-use Rattle.desk_base.specs.Keys.{id_key}
-use Rattle.desk_base.specs.Rows.{key_of, citations_of}
-use Rattle.desk_base.specs.Groups.{booked_for}
-use Rattle.desk_base.specs.Load.{ask_of}
-use Rattle.desk_base.specs.Picks.{Choice, choices_of}
-use Rattle.desk_base.specs.Listing.{ask_for}
-use Rattle.desk_base.specs.Sound.{IsSound, IsBooked, bookings_of}
-use Rattle.desk_base.proofs.Members.{IsIn, in-map, in-filter, in_mapped, contains_from_in, in_from_contains}
-use Rattle.desk_base.proofs.Sounds.{well_formed}
-use Rattle.desk_base.proofs.Shapes.{few_leaves}
+use Rattle.desk_base.specs.declared.rows.tables.Tables.{Tables}
+use Rattle.desk_base.specs.declared.rows.groups.GroupRow.{GroupRow}
+use Rattle.desk_base.specs.declared.rows.groups.Leaf.{Leaf}
+use Rattle.desk_base.specs.declared.rows.bookings.BookingRow.{BookingRow}
+use Rattle.desk_base.specs.declared.rows.tables.Key.{Key}
+use Rattle.desk_base.specs.declared.rows.tables.Table.TheVariants.{Group as GroupTable, Booking as BookingTable}
+use Rattle.desk_base.specs.declared.rows.tables.AnyRow.TheVariants.{Group, Booking}
+use Rattle.desk_base.specs.declared.asked.rules.TableRule.TheVariants.{Citation, Booked}
+use Rattle.desk_base.specs.rules.Limits.{node_limit}
+use Rattle.desk_base.specs.rows.Keys.{id_key}
+use Rattle.desk_base.specs.rows.Rows.{key_of, citations_of}
+use Rattle.desk_base.specs.asked.Groups.{booked_for}
+use Rattle.desk_base.specs.meaning.Load.{ask_of}
+use Rattle.desk_base.specs.meaning.Picks.{Choice, choices_of}
+use Rattle.desk_base.specs.search.Listing.{ask_for}
+use Rattle.desk_base.specs.rules.Sound.{IsSound, IsBooked, bookings_of}
+use Rattle.desk_base.proofs.lists.Members.{IsIn, in-map, in-filter, in_mapped, contains_from_in, in_from_contains}
+use Rattle.desk_base.proofs.tables.Sounds.{well_formed}
+use Rattle.desk_base.proofs.meaning.Shapes.{few_leaves}
 
 -- ---- rows that are told apart by a small number
 

@@ -7,31 +7,31 @@ use Rattle.std.specs.List.{list_any}
 use Rattle.std.specs.Option.{option_or}
 use Rattle.std.specs.Ordering.{is_eq, ordering_then}
 use Rattle.std.specs.declared.cmp.Ordering.TheVariants.{Less, Equal, Greater}
-use Rattle.desk_base.specs.declared.tables.Tables.{Tables}
-use Rattle.desk_base.specs.declared.tables.Table.TheVariants.{Group as GroupTable}
-use Rattle.desk_base.specs.declared.tables.AnyRow.TheVariants.{Group}
-use Rattle.desk_base.specs.declared.group_rows.GroupRow.{GroupRow}
-use Rattle.desk_base.specs.declared.tables.Key.{Key}
-use Rattle.desk_base.specs.declared.searches.Cursor.{Cursor}
-use Rattle.desk_base.specs.declared.searches.Options.{Options}
-use Rattle.desk_base.specs.declared.answers.Query.TheVariants.{Rows as RowsOf}
-use Rattle.desk_base.specs.declared.answers.Outcome.{Outcome}
-use Rattle.desk_base.specs.declared.answers.Outcome.TheVariants.{Done, Repeated, Refused, NoMemory}
-use Rattle.desk_base.specs.declared.answers.Reply.TheVariants.{Rows}
-use Rattle.desk_base.specs.declared.answers.Reply.TheVariants as reply
-use Rattle.desk_base.specs.declared.refusals.Refusal.{Refusal}
-use Rattle.desk_base.specs.declared.refusals.Refusal.TheVariants.{UnknownId, BadField}
-use Rattle.desk_base.specs.declared.rules.Field.TheVariants.{Limit, Per}
-use Rattle.desk_base.specs.Keys.{id_key}
-use Rattle.desk_base.specs.Rows.{key_of}
-use Rattle.desk_base.specs.Groups.{group_of}
-use Rattle.desk_base.specs.Refusing.{is_key, is_there, unknown_among}
-use Rattle.desk_base.specs.Limits.{page_limit}
-use Rattle.desk_base.specs.Fields.{is_within_range}
-use Rattle.desk_base.specs.Page.{IsAskable}
-use Rattle.desk_base.specs.Steps.{point_of, refused_limit, refused_per, refused_cursor, refused_page}
-use Rattle.desk_base.proofs.Members.{IsIn, contains_from_in}
-use Rattle.desk_base.proofs.Tests.{find_cases, and_left, and_right}
+use Rattle.desk_base.specs.declared.rows.tables.Tables.{Tables}
+use Rattle.desk_base.specs.declared.rows.tables.Table.TheVariants.{Group as GroupTable}
+use Rattle.desk_base.specs.declared.rows.tables.AnyRow.TheVariants.{Group}
+use Rattle.desk_base.specs.declared.rows.groups.GroupRow.{GroupRow}
+use Rattle.desk_base.specs.declared.rows.tables.Key.{Key}
+use Rattle.desk_base.specs.declared.search.results.Cursor.{Cursor}
+use Rattle.desk_base.specs.declared.search.results.Options.{Options}
+use Rattle.desk_base.specs.declared.asked.answers.Query.TheVariants.{Rows as RowsOf}
+use Rattle.desk_base.specs.declared.asked.answers.Outcome.{Outcome}
+use Rattle.desk_base.specs.declared.asked.answers.Outcome.TheVariants.{Done, Repeated, Refused, NoMemory}
+use Rattle.desk_base.specs.declared.asked.answers.Reply.TheVariants.{Rows}
+use Rattle.desk_base.specs.declared.asked.answers.Reply.TheVariants as reply
+use Rattle.desk_base.specs.declared.asked.refusals.Refusal.{Refusal}
+use Rattle.desk_base.specs.declared.asked.refusals.Refusal.TheVariants.{UnknownId, BadField}
+use Rattle.desk_base.specs.declared.asked.rules.Field.TheVariants.{Limit, Per}
+use Rattle.desk_base.specs.rows.Keys.{id_key}
+use Rattle.desk_base.specs.rows.Rows.{key_of}
+use Rattle.desk_base.specs.asked.Groups.{group_of}
+use Rattle.desk_base.specs.asked.Refusing.{is_key, is_there, unknown_among}
+use Rattle.desk_base.specs.rules.Limits.{page_limit}
+use Rattle.desk_base.specs.rules.Fields.{is_within_range}
+use Rattle.desk_base.specs.search.Page.{IsAskable}
+use Rattle.desk_base.specs.asked.Steps.{point_of, refused_limit, refused_per, refused_cursor, refused_page}
+use Rattle.desk_base.proofs.lists.Members.{IsIn, contains_from_in}
+use Rattle.desk_base.proofs.lists.Tests.{find_cases, and_left, and_right}
 use Rattle.desk_core.specs.Answering.{refused_known, IsPageOrNone, IsAnswerOrNone}
 
 -- whether an order is that of equal numbers

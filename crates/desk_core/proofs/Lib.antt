@@ -3,7 +3,6 @@ pub mod GroupsThere
 pub mod Counters
 pub mod EarlyParts
 pub mod Picking
-pub mod Chosen
 pub mod GroupCounts
 pub mod Trying
 pub mod Unrefused

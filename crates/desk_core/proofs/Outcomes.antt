@@ -1,20 +1,20 @@
 -- What comes of a served change: what the book keeps, and the outcome.
 use Rattle.std.proofs.Common.{◌≡◌, ℕ, List, [], ◌∷◌, ◌++◌, Some, None, inl, inr, refl, sym, subst}
 use Rattle.std.specs.Prelude.{Result, Ok, Err, IfOk, IfErr, OnOk, OnErr}
-use Rattle.desk_base.specs.declared.tables.Tables.{Tables}
-use Rattle.desk_base.specs.declared.booking_rows.Receipt.{Receipt}
-use Rattle.desk_base.specs.declared.changes.Act.{Act}
-use Rattle.desk_base.specs.declared.changes.Call.{Call}
-use Rattle.desk_base.specs.declared.changes.Entry.{Entry}
-use Rattle.desk_base.specs.declared.answers.Query.{Query}
-use Rattle.desk_base.specs.declared.answers.Outcome.{Outcome}
-use Rattle.desk_base.specs.declared.answers.Command.TheVariants as command
-use Rattle.desk_base.specs.declared.answers.Outcome.TheVariants as outcome
-use Rattle.desk_base.specs.declared.answers.Reply.TheVariants as reply
-use Rattle.desk_base.specs.Sound.{IsSound}
-use Rattle.desk_base.specs.Acts.{after_act, receipt_of}
-use Rattle.desk_base.specs.Steps.{IsAccepted, IsChanged, IsTurn, kept_receipt, entry_of}
-use Rattle.desk_base.proofs.Journals.{legal_entry}
+use Rattle.desk_base.specs.declared.rows.tables.Tables.{Tables}
+use Rattle.desk_base.specs.declared.rows.bookings.Receipt.{Receipt}
+use Rattle.desk_base.specs.declared.asked.acts.Act.{Act}
+use Rattle.desk_base.specs.declared.asked.acts.Call.{Call}
+use Rattle.desk_base.specs.declared.asked.acts.Entry.{Entry}
+use Rattle.desk_base.specs.declared.asked.answers.Query.{Query}
+use Rattle.desk_base.specs.declared.asked.answers.Outcome.{Outcome}
+use Rattle.desk_base.specs.declared.asked.answers.Command.TheVariants as command
+use Rattle.desk_base.specs.declared.asked.answers.Outcome.TheVariants as outcome
+use Rattle.desk_base.specs.declared.asked.answers.Reply.TheVariants as reply
+use Rattle.desk_base.specs.rules.Sound.{IsSound}
+use Rattle.desk_base.specs.asked.Acts.{after_act, receipt_of}
+use Rattle.desk_base.specs.asked.Steps.{IsAccepted, IsChanged, IsTurn, kept_receipt, entry_of}
+use Rattle.desk_base.proofs.histories.Journals.{legal_entry}
 use Rattle.desk_core.specs.declared.entering.NotEntered.{NotEntered}
 use Rattle.desk_core.specs.declared.entering.NotEntered.TheVariants.{Refused, NoMemory}
 use Rattle.desk_core.specs.Books.{IsKept}

@@ -5,13 +5,13 @@ use Rattle.std.proofs.lemmas.Grind.{flat_map-append}
 use Rattle.std.proofs.lemmas.List.Recursion.{is_count_by}
 use Rattle.std.specs.Prelude.{find, option_map}
 use Rattle.std.specs.Option.{option_or, option_to_list}
-use Rattle.desk_base.specs.declared.tables.Tables.{Tables}
-use Rattle.desk_base.specs.declared.tables.Key.{Key}
-use Rattle.desk_base.specs.declared.tables.Table.TheVariants.{Resource}
-use Rattle.desk_base.specs.declared.refusals.Refusal.{Refusal}
-use Rattle.desk_base.specs.declared.refusals.Refusal.TheVariants.{UnknownId}
-use Rattle.desk_base.specs.Keys.{id_key}
-use Rattle.desk_base.specs.Refusing.{is_there, picked, unknown_among}
+use Rattle.desk_base.specs.declared.rows.tables.Tables.{Tables}
+use Rattle.desk_base.specs.declared.rows.tables.Key.{Key}
+use Rattle.desk_base.specs.declared.rows.tables.Table.TheVariants.{Resource}
+use Rattle.desk_base.specs.declared.asked.refusals.Refusal.{Refusal}
+use Rattle.desk_base.specs.declared.asked.refusals.Refusal.TheVariants.{UnknownId}
+use Rattle.desk_base.specs.rows.Keys.{id_key}
+use Rattle.desk_base.specs.asked.Refusing.{is_there, picked, unknown_among}
 use Rattle.desk_core.proofs.EarlyParts.{or-none}
 
 -- ---- how many are picked

@@ -2,28 +2,28 @@
 use Rattle.std.proofs.Common.{◌≡◌, ◌≤◌, Bool, true, List, [], ◌++◌, map, length, refl, sym, ap, ◌∙◌, subst, arith}
 use Rattle.std.proofs.lemmas.Bool.{false≢true}
 use Rattle.std.proofs.lemmas.List.{append-nil, length-map}
-use Rattle.desk_base.specs.declared.tables.Tables.{Tables}
-use Rattle.desk_base.specs.declared.tables.Table.TheVariants.{Member as MemberTable, Booking as BookingTable}
-use Rattle.desk_base.specs.declared.tables.AnyRow.{AnyRow}
-use Rattle.desk_base.specs.declared.tables.AnyRow.TheVariants.{Zone, Calendar, Work, Unit, Site, Resource, Member}
-use Rattle.desk_base.specs.declared.booking_rows.BookingRow.{BookingRow}
-use Rattle.desk_base.specs.declared.changes.Act.{Act}
-use Rattle.desk_base.specs.declared.changes.Act.TheVariants as act
-use Rattle.desk_base.specs.declared.changes.Call.{Call}
-use Rattle.desk_base.specs.declared.changes.Change.{Change}
-use Rattle.desk_base.specs.declared.refusals.Clash.{Clash}
-use Rattle.desk_base.specs.declared.refusals.Refusal.TheVariants.{Conflict}
-use Rattle.desk_base.specs.Rows.{key_of}
-use Rattle.desk_base.specs.Load.{Fits, ask_of}
-use Rattle.desk_base.specs.Changes.{with_change}
-use Rattle.desk_base.specs.Acts.{after_act, change_of}
-use Rattle.desk_base.specs.Steps.{IsConflict}
-use Rattle.desk_base.specs.TableLimits.{limit_of}
-use Rattle.desk_base.specs.Efforts.{AreLightBookings}
-use Rattle.desk_base.specs.Sound.{IsSound}
-use Rattle.desk_base.proofs.Sounds.{few_keys, well_formed}
-use Rattle.desk_base.proofs.Efforts.{some_light}
-use Rattle.desk_base.proofs.Shapes.{few_bookings}
+use Rattle.desk_base.specs.declared.rows.tables.Tables.{Tables}
+use Rattle.desk_base.specs.declared.rows.tables.Table.TheVariants.{Member as MemberTable, Booking as BookingTable}
+use Rattle.desk_base.specs.declared.rows.tables.AnyRow.{AnyRow}
+use Rattle.desk_base.specs.declared.rows.tables.AnyRow.TheVariants.{Zone, Calendar, Work, Unit, Site, Resource, Member}
+use Rattle.desk_base.specs.declared.rows.bookings.BookingRow.{BookingRow}
+use Rattle.desk_base.specs.declared.asked.acts.Act.{Act}
+use Rattle.desk_base.specs.declared.asked.acts.Act.TheVariants as act
+use Rattle.desk_base.specs.declared.asked.acts.Call.{Call}
+use Rattle.desk_base.specs.declared.asked.acts.Change.{Change}
+use Rattle.desk_base.specs.declared.asked.refusals.Clash.{Clash}
+use Rattle.desk_base.specs.declared.asked.refusals.Refusal.TheVariants.{Conflict}
+use Rattle.desk_base.specs.rows.Rows.{key_of}
+use Rattle.desk_base.specs.meaning.Load.{Fits, ask_of}
+use Rattle.desk_base.specs.changes.Changes.{with_change}
+use Rattle.desk_base.specs.asked.Acts.{after_act, change_of}
+use Rattle.desk_base.specs.asked.Steps.{IsConflict}
+use Rattle.desk_base.specs.rules.TableLimits.{limit_of}
+use Rattle.desk_base.specs.meaning.Efforts.{AreLightBookings}
+use Rattle.desk_base.specs.rules.Sound.{IsSound}
+use Rattle.desk_base.proofs.tables.Sounds.{few_keys, well_formed}
+use Rattle.desk_base.proofs.meaning.Efforts.{some_light}
+use Rattle.desk_base.proofs.meaning.Shapes.{few_bookings}
 use Rattle.desk_core.specs.declared.entering.NotEntered.{NotEntered}
 use Rattle.desk_core.specs.declared.entering.NotEntered.TheVariants.{Refused, NoMemory}
 use Rattle.desk_core.specs.Built.{CanBePut, IsServed}

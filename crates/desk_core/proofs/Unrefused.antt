@@ -4,35 +4,35 @@ use Rattle.std.proofs.lemmas.Bool.{leb-true}
 use Rattle.std.specs.Prelude.{Result, Ok, Err, OnOk, OnErr}
 use Rattle.std.specs.Option.{option_map_or}
 use Rattle.std.specs.List.{list_all}
-use Rattle.desk_base.specs.declared.tables.Tables.{Tables}
-use Rattle.desk_base.specs.declared.tables.Table.TheVariants.{Resource as ResourceTable, Group as GroupTable, Booking as BookingTable}
-use Rattle.desk_base.specs.declared.tables.AnyRow.{AnyRow}
-use Rattle.desk_base.specs.declared.tables.AnyRow.TheVariants.{Zone, Calendar, Work, Unit, Site, Resource}
-use Rattle.desk_base.specs.declared.group_rows.GroupRow.{GroupRow}
-use Rattle.desk_base.specs.declared.rules.TableRule.TheVariants.{Count}
-use Rattle.desk_base.specs.declared.changes.Act.{Act}
-use Rattle.desk_base.specs.declared.changes.Act.TheVariants as act
-use Rattle.desk_base.specs.declared.changes.Call.{Call}
-use Rattle.desk_base.specs.declared.changes.Entry.{Entry}
-use Rattle.desk_base.specs.declared.refusals.Refusal.TheVariants.{UnknownId}
-use Rattle.desk_base.specs.Limits.{serial_limit}
-use Rattle.desk_base.specs.Keys.{id_key}
-use Rattle.desk_base.specs.Rows.{key_of}
-use Rattle.desk_base.specs.Groups.{group_of}
-use Rattle.desk_base.specs.Picks.{choices_of}
-use Rattle.desk_base.specs.Listing.{IsFeasible}
-use Rattle.desk_base.specs.Refusing.{is_there, picked, cited_by, early_refusal}
-use Rattle.desk_base.specs.Acts.{after_act, made_by, bookings_from}
-use Rattle.desk_base.specs.Steps.{bears_on_room, IsAccepted}
-use Rattle.desk_base.specs.Sound.{IsSound}
-use Rattle.desk_base.proofs.Tests.{and_left}
-use Rattle.desk_base.proofs.ActPuts.{counts_kept}
-use Rattle.desk_base.proofs.PutRefusals.{map_none, all_there, early_none}
-use Rattle.desk_base.proofs.AcceptedPuts.{is_put_row, accepted_put, accepted_quiet_put, accepted_put_group, sound_put, sound_quiet_put, sound_put_group}
-use Rattle.desk_base.proofs.BookRefusals.{book_places}
-use Rattle.desk_base.proofs.FeasibleBookings.{few_new}
-use Rattle.desk_base.proofs.AcceptedBookings.{accepted_book, sound_book, accepted_cancel, sound_cancel}
-use Rattle.desk_base.specs.declared.booking_rows.Receipt.{Receipt}
+use Rattle.desk_base.specs.declared.rows.tables.Tables.{Tables}
+use Rattle.desk_base.specs.declared.rows.tables.Table.TheVariants.{Resource as ResourceTable, Group as GroupTable, Booking as BookingTable}
+use Rattle.desk_base.specs.declared.rows.tables.AnyRow.{AnyRow}
+use Rattle.desk_base.specs.declared.rows.tables.AnyRow.TheVariants.{Zone, Calendar, Work, Unit, Site, Resource}
+use Rattle.desk_base.specs.declared.rows.groups.GroupRow.{GroupRow}
+use Rattle.desk_base.specs.declared.asked.rules.TableRule.TheVariants.{Count}
+use Rattle.desk_base.specs.declared.asked.acts.Act.{Act}
+use Rattle.desk_base.specs.declared.asked.acts.Act.TheVariants as act
+use Rattle.desk_base.specs.declared.asked.acts.Call.{Call}
+use Rattle.desk_base.specs.declared.asked.acts.Entry.{Entry}
+use Rattle.desk_base.specs.declared.asked.refusals.Refusal.TheVariants.{UnknownId}
+use Rattle.desk_base.specs.rules.Limits.{serial_limit}
+use Rattle.desk_base.specs.rows.Keys.{id_key}
+use Rattle.desk_base.specs.rows.Rows.{key_of}
+use Rattle.desk_base.specs.asked.Groups.{group_of}
+use Rattle.desk_base.specs.meaning.Picks.{choices_of}
+use Rattle.desk_base.specs.search.Listing.{IsFeasible}
+use Rattle.desk_base.specs.asked.Refusing.{is_there, picked, cited_by, early_refusal}
+use Rattle.desk_base.specs.asked.Acts.{after_act, made_by, bookings_from}
+use Rattle.desk_base.specs.asked.Steps.{bears_on_room, IsAccepted}
+use Rattle.desk_base.specs.rules.Sound.{IsSound}
+use Rattle.desk_base.proofs.lists.Tests.{and_left}
+use Rattle.desk_base.proofs.puts.ActPuts.{counts_kept}
+use Rattle.desk_base.proofs.puts.PutRefusals.{map_none, all_there, early_none}
+use Rattle.desk_base.proofs.puts.AcceptedPuts.{is_put_row, accepted_put, accepted_quiet_put, accepted_put_group, sound_put, sound_quiet_put, sound_put_group}
+use Rattle.desk_base.proofs.booked.BookRefusals.{book_places}
+use Rattle.desk_base.proofs.booked.FeasibleBookings.{few_new}
+use Rattle.desk_base.proofs.booked.AcceptedBookings.{accepted_book, sound_book, accepted_cancel, sound_cancel}
+use Rattle.desk_base.specs.declared.rows.bookings.Receipt.{Receipt}
 use Rattle.desk_core.specs.declared.entering.NotEntered.{NotEntered}
 use Rattle.desk_core.specs.Built.{CanBePut, IsServed}
 use Rattle.desk_core.specs.Effects.{IsFeasibleOf, IsPlaced, IsKnown}

@@ -1,17 +1,17 @@
 -- Answers to questions, or want of memory.
 use Rattle.std.specs.Prelude.{◌≡◌, ◌⊎◌, ℕ, Bool, Option, ⊤}
 use Rattle.std.specs.Option.{option_or}
-use Rattle.desk_base.specs.declared.tables.Tables.{Tables}
-use Rattle.desk_base.specs.declared.group_rows.GroupRow.{GroupRow}
-use Rattle.desk_base.specs.declared.searches.Options.{Options}
-use Rattle.desk_base.specs.declared.searches.Cursor.{Cursor}
-use Rattle.desk_base.specs.declared.refusals.Refusal.{Refusal}
-use Rattle.desk_base.specs.declared.answers.Query.{Query}
-use Rattle.desk_base.specs.declared.answers.Outcome.{Outcome}
-use Rattle.desk_base.specs.declared.answers.Outcome.TheVariants.{Done, NoMemory}
-use Rattle.desk_base.specs.declared.answers.Reply.TheVariants.{Rows}
-use Rattle.desk_base.specs.Page.{ResumePoint, IsPage}
-use Rattle.desk_base.specs.Steps.{refused_limit, refused_per, refused_cursor, IsAnswer}
+use Rattle.desk_base.specs.declared.rows.tables.Tables.{Tables}
+use Rattle.desk_base.specs.declared.rows.groups.GroupRow.{GroupRow}
+use Rattle.desk_base.specs.declared.search.results.Options.{Options}
+use Rattle.desk_base.specs.declared.search.results.Cursor.{Cursor}
+use Rattle.desk_base.specs.declared.asked.refusals.Refusal.{Refusal}
+use Rattle.desk_base.specs.declared.asked.answers.Query.{Query}
+use Rattle.desk_base.specs.declared.asked.answers.Outcome.{Outcome}
+use Rattle.desk_base.specs.declared.asked.answers.Outcome.TheVariants.{Done, NoMemory}
+use Rattle.desk_base.specs.declared.asked.answers.Reply.TheVariants.{Rows}
+use Rattle.desk_base.specs.search.Page.{ResumePoint, IsPage}
+use Rattle.desk_base.specs.asked.Steps.{refused_limit, refused_per, refused_cursor, IsAnswer}
 
 -- why a page of a group that is there is refused
 abbrev pub refused_known : Tables → Options → Option Cursor → Bool → ℕ → Option Refusal

@@ -1,9 +1,9 @@
 -- What a book shows, and what each of them keeps.
 use Rattle.std.specs.Prelude.{◌≡◌, List}
-use Rattle.desk_base.specs.declared.tables.Tables.{Tables}
-use Rattle.desk_base.specs.declared.changes.Entry.{Entry}
-use Rattle.desk_base.specs.Sound.{IsSound}
-use Rattle.desk_base.specs.Histories.{IsLegal, after_journal}
+use Rattle.desk_base.specs.declared.rows.tables.Tables.{Tables}
+use Rattle.desk_base.specs.declared.asked.acts.Entry.{Entry}
+use Rattle.desk_base.specs.rules.Sound.{IsSound}
+use Rattle.desk_base.specs.asked.Histories.{IsLegal, after_journal}
 
 -- the tables at the opening, the tables now, and the changes that were accepted in between
 pub record BookState : Type 0 where

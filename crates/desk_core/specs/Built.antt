@@ -1,16 +1,16 @@
 -- Which commands are served by now.
 use Rattle.std.specs.Prelude.{◌≡◌, [], ◌∷◌, None, ⊤}
-use Rattle.desk_base.specs.declared.tables.AnyRow.{AnyRow}
-use Rattle.desk_base.specs.declared.group_rows.GroupRow.{GroupRow}
-use Rattle.desk_base.specs.declared.group_rows.Leaf.{Leaf}
-use Rattle.desk_base.specs.declared.group_rows.Node.{Node}
-use Rattle.desk_base.specs.declared.tables.AnyRow.TheVariants.{Zone, Calendar, Work, Unit, Site, Resource}
-use Rattle.desk_base.specs.declared.group_rows.NodeKind.TheVariants.{Leaf as LeafNode}
-use Rattle.desk_base.specs.declared.group_rows.Same.TheVariants.{None as NoSame}
-use Rattle.desk_base.specs.declared.changes.Act.{Act}
-use Rattle.desk_base.specs.declared.changes.Act.TheVariants as act
-use Rattle.desk_base.specs.declared.answers.Command.{Command}
-use Rattle.desk_base.specs.declared.answers.Command.TheVariants as command
+use Rattle.desk_base.specs.declared.rows.tables.AnyRow.{AnyRow}
+use Rattle.desk_base.specs.declared.rows.groups.GroupRow.{GroupRow}
+use Rattle.desk_base.specs.declared.rows.groups.Leaf.{Leaf}
+use Rattle.desk_base.specs.declared.rows.groups.Node.{Node}
+use Rattle.desk_base.specs.declared.rows.tables.AnyRow.TheVariants.{Zone, Calendar, Work, Unit, Site, Resource}
+use Rattle.desk_base.specs.declared.rows.groups.NodeKind.TheVariants.{Leaf as LeafNode}
+use Rattle.desk_base.specs.declared.rows.groups.Same.TheVariants.{None as NoSame}
+use Rattle.desk_base.specs.declared.asked.acts.Act.{Act}
+use Rattle.desk_base.specs.declared.asked.acts.Act.TheVariants as act
+use Rattle.desk_base.specs.declared.asked.answers.Command.{Command}
+use Rattle.desk_base.specs.declared.asked.answers.Command.TheVariants as command
 
 -- the node of a leaf that stands alone
 abbrev pub lone_leaf : Node

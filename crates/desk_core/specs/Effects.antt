@@ -1,14 +1,14 @@
 -- What an accepted act comes to.
 use Rattle.std.specs.Prelude.{ℕ, ◌+◌, List, [], map, length, Option, Some, None, IsSome, ⊤}
-use Rattle.desk_base.specs.declared.tables.Tables.{Tables}
-use Rattle.desk_base.specs.declared.tables.AnyRow.TheVariants.{Booking}
-use Rattle.desk_base.specs.declared.booking_rows.BookingRow.{BookingRow}
-use Rattle.desk_base.specs.declared.group_rows.GroupRow.{GroupRow}
-use Rattle.desk_base.specs.declared.changes.Act.{Act}
-use Rattle.desk_base.specs.declared.changes.Act.TheVariants as act
-use Rattle.desk_base.specs.Acts.{put_by, taken_by, made_by, receipt_of, booked_receipt}
-use Rattle.desk_base.specs.Groups.{group_of}
-use Rattle.desk_base.specs.Listing.{IsFeasible}
+use Rattle.desk_base.specs.declared.rows.tables.Tables.{Tables}
+use Rattle.desk_base.specs.declared.rows.tables.AnyRow.TheVariants.{Booking}
+use Rattle.desk_base.specs.declared.rows.bookings.BookingRow.{BookingRow}
+use Rattle.desk_base.specs.declared.rows.groups.GroupRow.{GroupRow}
+use Rattle.desk_base.specs.declared.asked.acts.Act.{Act}
+use Rattle.desk_base.specs.declared.asked.acts.Act.TheVariants as act
+use Rattle.desk_base.specs.asked.Acts.{put_by, taken_by, made_by, receipt_of, booked_receipt}
+use Rattle.desk_base.specs.asked.Groups.{group_of}
+use Rattle.desk_base.specs.search.Listing.{IsFeasible}
 use Rattle.desk_core.specs.declared.effects.Effect.{Effect}
 
 -- the rows that it puts, the keys that it takes out, how many bookings it makes, and what it gives

@@ -1,24 +1,24 @@
 -- What comes of a change: it is entered, or a refusal applies.
 use Rattle.std.specs.Prelude.{◌≡◌, ◌≤◌, Bool, true, false, List, [], map, length, Result, Ok, Err, ⊤}
-use Rattle.desk_base.specs.declared.booking_rows.Receipt.{Receipt}
-use Rattle.desk_base.specs.declared.tables.Tables.{Tables}
-use Rattle.desk_base.specs.declared.tables.Table.TheVariants.{Booking, Member}
-use Rattle.desk_base.specs.declared.changes.Act.{Act}
-use Rattle.desk_base.specs.declared.changes.Act.TheVariants as act
-use Rattle.desk_base.specs.declared.changes.Call.{Call}
-use Rattle.desk_base.specs.declared.changes.Change.{Change}
-use Rattle.desk_base.specs.declared.changes.Entry.{Entry}
-use Rattle.desk_base.specs.declared.refusals.Refusal.TheVariants.{Conflict}
-use Rattle.desk_base.specs.declared.answers.Outcome.{Outcome}
-use Rattle.desk_base.specs.declared.answers.Outcome.TheVariants as outcome
-use Rattle.desk_base.specs.declared.answers.Reply.TheVariants as reply
-use Rattle.desk_base.specs.Rows.{key_of}
-use Rattle.desk_base.specs.TableLimits.{limit_of}
-use Rattle.desk_base.specs.Load.{Fits, ask_of}
-use Rattle.desk_base.specs.Efforts.{AreLightBookings}
-use Rattle.desk_base.specs.Changes.{with_change}
-use Rattle.desk_base.specs.Acts.{after_act}
-use Rattle.desk_base.specs.Steps.{bears_on_room, IsConflict, IsLateRefusal, IsRefused}
+use Rattle.desk_base.specs.declared.rows.bookings.Receipt.{Receipt}
+use Rattle.desk_base.specs.declared.rows.tables.Tables.{Tables}
+use Rattle.desk_base.specs.declared.rows.tables.Table.TheVariants.{Booking, Member}
+use Rattle.desk_base.specs.declared.asked.acts.Act.{Act}
+use Rattle.desk_base.specs.declared.asked.acts.Act.TheVariants as act
+use Rattle.desk_base.specs.declared.asked.acts.Call.{Call}
+use Rattle.desk_base.specs.declared.asked.acts.Change.{Change}
+use Rattle.desk_base.specs.declared.asked.acts.Entry.{Entry}
+use Rattle.desk_base.specs.declared.asked.refusals.Refusal.TheVariants.{Conflict}
+use Rattle.desk_base.specs.declared.asked.answers.Outcome.{Outcome}
+use Rattle.desk_base.specs.declared.asked.answers.Outcome.TheVariants as outcome
+use Rattle.desk_base.specs.declared.asked.answers.Reply.TheVariants as reply
+use Rattle.desk_base.specs.rows.Rows.{key_of}
+use Rattle.desk_base.specs.rules.TableLimits.{limit_of}
+use Rattle.desk_base.specs.meaning.Load.{Fits, ask_of}
+use Rattle.desk_base.specs.meaning.Efforts.{AreLightBookings}
+use Rattle.desk_base.specs.changes.Changes.{with_change}
+use Rattle.desk_base.specs.asked.Acts.{after_act}
+use Rattle.desk_base.specs.asked.Steps.{bears_on_room, IsConflict, IsLateRefusal, IsRefused}
 use Rattle.desk_core.specs.declared.entering.NotEntered.{NotEntered}
 use Rattle.desk_core.specs.declared.entering.NotEntered.TheVariants.{Refused, NoMemory}
 

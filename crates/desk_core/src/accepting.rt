@@ -1,10 +1,10 @@
 //! What an accepted change is kept as: its rows with that of the caller, and its entry in the journal.
 ghost use Rattle.std.specs.Prelude.{◌≡◌, ◌+◌, ◌≤◌, ◌++◌, ◌∷◌, [], length, IfOk};
-ghost use Rattle.desk_base.specs.Acts.{change_of, made_by};
-ghost use Rattle.desk_base.specs.Limits.{serial_limit};
-ghost use Rattle.desk_base.specs.Sound.{IsSound};
-ghost use Rattle.desk_base.specs.Steps.{entry_of};
-ghost use Rattle.desk_base.specs.declared.tables.AnyRow.TheVariants.{Caller};
+ghost use Rattle.desk_base.specs.asked.Acts.{change_of, made_by};
+ghost use Rattle.desk_base.specs.rules.Limits.{serial_limit};
+ghost use Rattle.desk_base.specs.rules.Sound.{IsSound};
+ghost use Rattle.desk_base.specs.asked.Steps.{entry_of};
+ghost use Rattle.desk_base.specs.declared.rows.tables.AnyRow.TheVariants.{Caller};
 ghost use Rattle.desk_core.specs.Built.{IsServed};
 ghost use Rattle.desk_core.specs.Effects.{IsPlaced};
 

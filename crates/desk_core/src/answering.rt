@@ -1,26 +1,24 @@
 //! Answers to questions.
 ghost use Rattle.std.specs.Prelude.{◌≡◌, None, Contains, option_copied};
 ghost use Rattle.std.specs.Option.{option_or};
-ghost use Rattle.desk_base.specs.Keys.{id_key};
-ghost use Rattle.desk_base.specs.Sound.{IsSound};
-ghost use Rattle.desk_base.specs.Fields.{is_within_range};
-ghost use Rattle.desk_base.specs.Limits.{page_limit};
-ghost use Rattle.desk_base.specs.Page.{IsAskable};
-ghost use Rattle.desk_base.specs.Steps.{point_of, refused_limit, refused_per, refused_cursor};
-ghost use Rattle.desk_base.specs.declared.answers.Query.TheVariants.{Rows as RowsOf};
-ghost use Rattle.desk_base.specs.declared.refusals.Refusal.TheVariants.{UnknownId};
-ghost use Rattle.desk_base.specs.declared.tables.Table.TheVariants.{Group};
+ghost use Rattle.desk_base.specs.rows.Keys.{id_key};
+ghost use Rattle.desk_base.specs.rules.Sound.{IsSound};
+ghost use Rattle.desk_base.specs.rules.Fields.{is_within_range};
+ghost use Rattle.desk_base.specs.rules.Limits.{page_limit};
+ghost use Rattle.desk_base.specs.search.Page.{IsAskable};
+ghost use Rattle.desk_base.specs.asked.Steps.{point_of, refused_limit, refused_per, refused_cursor};
+ghost use Rattle.desk_base.specs.declared.asked.answers.Query.TheVariants.{Rows as RowsOf};
+ghost use Rattle.desk_base.specs.declared.asked.refusals.Refusal.TheVariants.{UnknownId};
+ghost use Rattle.desk_base.specs.declared.rows.tables.Table.TheVariants.{Group};
 ghost use Rattle.desk_core.specs.Answering.{refused_known, IsPageOrNone, IsAnswerOrNone};
 
+use desk_base::limits::PAGE_LIMIT;
 use desk_base::{
     Cursor, Field, GroupId, GroupRow, Key, Options, Outcome, Position, Query, Refusal, Reply,
     Table, Tables,
 };
 use desk_search::page;
 use std::alloc::Global;
-
-/// Rows of a page, and of a start, at most.
-const MOST_ROWS: u32 = 500;
 
 /// The position that a cursor shows.
 fn position_of(after: &Option<Cursor>) -> Option<&Position>
@@ -45,7 +43,7 @@ fn shown_of(after: &Option<Cursor>) -> u16
 fn is_askable(count: u32) -> bool
     ensures { result ≡ is_within_range 1 page_limit count }
 {
-    1 <= count && count <= MOST_ROWS
+    1 <= count && count <= u32::from(PAGE_LIMIT)
 }
 
 fn refused_limit(limit: u32) -> Option<Refusal>

@@ -1,10 +1,10 @@
 //! A schedule with the journal of its changes. A book is always sound, its journal is legal over the tables that it was opened
 //! with, and its tables are those after its journal: no call can lose that.
 ghost use Rattle.std.specs.Prelude.{◌≡◌, []};
-ghost use Rattle.desk_base.specs.Histories.{IsLegal, after_journal};
-ghost use Rattle.desk_base.specs.Sound.{IsSound};
-ghost use Rattle.desk_base.specs.Steps.{IsTurn};
-ghost use Rattle.desk_base.specs.declared.answers.Command.TheVariants.{Change};
+ghost use Rattle.desk_base.specs.asked.Histories.{IsLegal, after_journal};
+ghost use Rattle.desk_base.specs.rules.Sound.{IsSound};
+ghost use Rattle.desk_base.specs.asked.Steps.{IsTurn};
+ghost use Rattle.desk_base.specs.declared.asked.answers.Command.TheVariants.{Change};
 ghost use Rattle.desk_core.specs.Built.{IsServed, IsBuilt};
 
 use crate::answering::answer;

@@ -1,9 +1,9 @@
 //! Callers: the numbers of their changes, and the receipt of the last.
 ghost use Rattle.std.specs.Prelude.{◌≡◌, ◌==◌, find};
 ghost use Rattle.std.specs.Option.{option_copied};
-ghost use Rattle.desk_base.specs.Callers.{last_number};
-ghost use Rattle.desk_base.specs.Steps.{kept_receipt};
-ghost use Rattle.desk_base.specs.Refusing.{refused_number};
+ghost use Rattle.desk_base.specs.asked.Callers.{last_number};
+ghost use Rattle.desk_base.specs.asked.Steps.{kept_receipt};
+ghost use Rattle.desk_base.specs.asked.Refusing.{refused_number};
 
 use desk_base::{Call, CallerId, CallerRow, Receipt, Refusal, Tables};
 

@@ -1,11 +1,11 @@
 //! What a change comes to: it is refused for the first reason that applies, or entered.
 ghost use Rattle.std.specs.Prelude.{◌≡◌, ◌++◌, ◌∷◌, [], None, IfOk, IfErr, IsSome, OnOk, OnErr, MatchOption};
-ghost use Rattle.desk_base.specs.Acts.{after_act, receipt_of};
-ghost use Rattle.desk_base.specs.Groups.{group_of};
-ghost use Rattle.desk_base.specs.Refusing.{early_refusal};
-ghost use Rattle.desk_base.specs.Sound.{IsSound};
-ghost use Rattle.desk_base.specs.Steps.{entry_of, IsAccepted, IsLateRefusal, IsPlaceRefusalOf};
-ghost use Rattle.desk_base.specs.declared.changes.Call.{Call};
+ghost use Rattle.desk_base.specs.asked.Acts.{after_act, receipt_of};
+ghost use Rattle.desk_base.specs.asked.Groups.{group_of};
+ghost use Rattle.desk_base.specs.asked.Refusing.{early_refusal};
+ghost use Rattle.desk_base.specs.rules.Sound.{IsSound};
+ghost use Rattle.desk_base.specs.asked.Steps.{entry_of, IsAccepted, IsLateRefusal, IsPlaceRefusalOf};
+ghost use Rattle.desk_base.specs.declared.asked.acts.Call.{Call};
 ghost use Rattle.desk_core.specs.Built.{IsServed};
 ghost use Rattle.desk_core.specs.Effects.{IsFeasibleOf, IsKnown, IsPlaced};
 ghost use Rattle.desk_core.specs.Entered.{FitAfter, IsHindrance, IsLateHindrance};

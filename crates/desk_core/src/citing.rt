@@ -1,12 +1,12 @@
 //! Why what a change names is not all there: the first row that is not, in the order of the change's fields.
 ghost use Rattle.std.specs.Prelude.{◌≡◌, ◌∷◌, [], map};
 ghost use Rattle.std.specs.Option.{option_to_list};
-ghost use Rattle.desk_base.specs.Keys.{id_key};
-ghost use Rattle.desk_base.specs.Refusing.{cited_by, picked, unknown_among};
-ghost use Rattle.desk_base.specs.Rows.{citations_of};
-ghost use Rattle.desk_base.specs.Sound.{IsSound};
-ghost use Rattle.desk_base.specs.declared.tables.AnyRow.TheVariants.{Resource as ResourceOf};
-ghost use Rattle.desk_base.specs.declared.tables.Table.TheVariants.{Group, Resource};
+ghost use Rattle.desk_base.specs.rows.Keys.{id_key};
+ghost use Rattle.desk_base.specs.asked.Refusing.{cited_by, picked, unknown_among};
+ghost use Rattle.desk_base.specs.rows.Rows.{citations_of};
+ghost use Rattle.desk_base.specs.rules.Sound.{IsSound};
+ghost use Rattle.desk_base.specs.declared.rows.tables.AnyRow.TheVariants.{Resource as ResourceOf};
+ghost use Rattle.desk_base.specs.declared.rows.tables.Table.TheVariants.{Group, Resource};
 ghost use Rattle.desk_core.specs.Built.{CanBePut, IsServed};
 
 use desk_base::{Act, AnyRow, GroupId, Key, Refusal, ResourceId, ResourceRow, Table, Tables};

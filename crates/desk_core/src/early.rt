@@ -1,13 +1,13 @@
 //! The refusals that the rows alone show, in the order in which they are judged.
 ghost use Rattle.std.specs.Prelude.{◌≡◌, if◌then◌else◌, option_map};
 ghost use Rattle.std.specs.Option.{option_or};
-ghost use Rattle.desk_base.specs.Callers.{last_number};
-ghost use Rattle.desk_base.specs.Groups.{is_booked};
-ghost use Rattle.desk_base.specs.Refusing.{cited_by, early_refusal, refused_booked, refused_entry, refused_field, refused_number, refused_open, refused_place, too_many, unknown_among};
-ghost use Rattle.desk_base.specs.Rows.{rules_of};
-ghost use Rattle.desk_base.specs.Rules.{first_broken};
-ghost use Rattle.desk_base.specs.Sound.{IsSound};
-ghost use Rattle.desk_base.specs.declared.refusals.Refusal.TheVariants.{BadField, NotBooked, NotOpen};
+ghost use Rattle.desk_base.specs.asked.Callers.{last_number};
+ghost use Rattle.desk_base.specs.asked.Groups.{is_booked};
+ghost use Rattle.desk_base.specs.asked.Refusing.{cited_by, early_refusal, refused_booked, refused_entry, refused_field, refused_number, refused_open, refused_place, too_many, unknown_among};
+ghost use Rattle.desk_base.specs.rows.Rows.{rules_of};
+ghost use Rattle.desk_base.specs.rules.Rules.{first_broken};
+ghost use Rattle.desk_base.specs.rules.Sound.{IsSound};
+ghost use Rattle.desk_base.specs.declared.asked.refusals.Refusal.TheVariants.{BadField, NotBooked, NotOpen};
 ghost use Rattle.desk_core.specs.Built.{CanBePut, IsServed};
 
 use crate::callers::{last_number, refused_number};
@@ -16,16 +16,8 @@ use crate::group_bookings::is_booked;
 use crate::group_rules::broken_group;
 use crate::row_places::refused_place;
 use crate::row_rules::{broken_calendar, broken_named, broken_resource, broken_work, broken_zone};
+use desk_base::limits::{JOURNAL_LIMIT, LEAF_LIMIT, REVISION_LIMIT};
 use desk_base::{Act, AnyRow, Call, Entry, Field, GroupId, Refusal, ResourceId, Tables};
-
-/// Entries of a journal, at most.
-const JOURNAL_LIMIT: usize = 100_000;
-
-/// Leaves of a tree, at most.
-const LEAF_LIMIT: usize = 24;
-
-/// The greatest revision.
-const REVISION_LIMIT: u64 = 1_000_000_000_000_000;
 
 fn refused_entry(tables: &Tables, journal: &[Entry]) -> Option<Refusal>
     ensures { result ≡ refused_entry tables.now journal.now }
@@ -39,7 +31,8 @@ fn refused_entry(tables: &Tables, journal: &[Entry]) -> Option<Refusal>
 }
 
 fn broken_row(tables: &Tables, row: &AnyRow) -> Option<Field>
-    requires { CanBePut row.now }
+    requires sound { IsSound tables.now }
+    requires row { CanBePut row.now }
     ensures { result ≡ first_broken (rules_of tables.now row.now) }
 {
     match row {
@@ -66,7 +59,8 @@ fn broken_picks(picks: &[Option<ResourceId>]) -> Option<Field>
 
 /// Why a field of the act is out of its range: the first such field.
 fn refused_field(tables: &Tables, act: &Act) -> Option<Refusal>
-    requires { IsServed act.now }
+    requires sound { IsSound tables.now }
+    requires served { IsServed act.now }
     ensures { result ≡ refused_field tables.now act.now }
 {
     let broken = match act {

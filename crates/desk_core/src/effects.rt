@@ -1,16 +1,16 @@
 //! What an accepted act comes to: the rows that it puts, the keys of those that it takes out, and what it gives.
 ghost use Rattle.std.specs.Prelude.{◌≡◌, ◌+◌, ◌≤◌, ◌∷◌, [], map, length, Contains, IfOk};
-ghost use Rattle.desk_base.specs.Acts.{booked_receipt, bookings_from, made_by};
-ghost use Rattle.desk_base.specs.Groups.{effort_minutes, group_of};
-ghost use Rattle.desk_base.specs.Keys.{id_key};
-ghost use Rattle.desk_base.specs.Limits.{serial_limit, node_limit};
-ghost use Rattle.desk_base.specs.Listing.{IsFeasible};
-ghost use Rattle.desk_base.specs.Picks.{choices_of};
-ghost use Rattle.desk_base.specs.Sound.{IsSound};
-ghost use Rattle.desk_base.specs.declared.booking_rows.Receipt.TheVariants.{Cancelled, Put};
-ghost use Rattle.desk_base.specs.declared.changes.Act.TheVariants.{BookGroup, CancelGroup};
-ghost use Rattle.desk_base.specs.declared.tables.AnyRow.TheVariants.{Booking as BookingOf};
-ghost use Rattle.desk_base.specs.declared.tables.Table.TheVariants.{Booking};
+ghost use Rattle.desk_base.specs.asked.Acts.{booked_receipt, bookings_from, made_by};
+ghost use Rattle.desk_base.specs.asked.Groups.{effort_minutes, group_of};
+ghost use Rattle.desk_base.specs.rows.Keys.{id_key};
+ghost use Rattle.desk_base.specs.rules.Limits.{serial_limit, node_limit};
+ghost use Rattle.desk_base.specs.search.Listing.{IsFeasible};
+ghost use Rattle.desk_base.specs.meaning.Picks.{choices_of};
+ghost use Rattle.desk_base.specs.rules.Sound.{IsSound};
+ghost use Rattle.desk_base.specs.declared.rows.bookings.Receipt.TheVariants.{Cancelled, Put};
+ghost use Rattle.desk_base.specs.declared.asked.acts.Act.TheVariants.{BookGroup, CancelGroup};
+ghost use Rattle.desk_base.specs.declared.rows.tables.AnyRow.TheVariants.{Booking as BookingOf};
+ghost use Rattle.desk_base.specs.declared.rows.tables.Table.TheVariants.{Booking};
 ghost use Rattle.desk_core.specs.Built.{IsServed};
 ghost use Rattle.desk_core.specs.Effects.{effect_of, effect_of_made, IsFeasibleOf, IsPlaced};
 

@@ -1,16 +1,16 @@
 //! Enters changes: the tables with the change, and the journal with its entry. All memory is taken before anything changes. A
 //! change that bears on room is tried out, and taken back where the standing bookings do not fit with it.
 ghost use Rattle.std.specs.Prelude.{◌≡◌, ◌+◌, ◌≤◌, ◌++◌, ◌∷◌, [], map, length, true, IfOk, IfErr, OnOk, OnErr, MatchOption};
-ghost use Rattle.desk_base.specs.Acts.{after_act, made_by, receipt_of};
-ghost use Rattle.desk_base.specs.Changes.{with_change};
-ghost use Rattle.desk_base.specs.Limits.{serial_limit};
-ghost use Rattle.desk_base.specs.Efforts.{AreLightBookings};
-ghost use Rattle.desk_base.specs.Load.{Fits, ask_of};
-ghost use Rattle.desk_base.specs.Lookups.{KeysRise};
-ghost use Rattle.desk_base.specs.Sound.{IsSound};
-ghost use Rattle.desk_base.specs.Steps.{bears_on_room, entry_of, IsConflict};
-ghost use Rattle.desk_base.specs.TableLimits.{limit_of};
-ghost use Rattle.desk_base.specs.declared.tables.Table.TheVariants.{Booking, Member};
+ghost use Rattle.desk_base.specs.asked.Acts.{after_act, made_by, receipt_of};
+ghost use Rattle.desk_base.specs.changes.Changes.{with_change};
+ghost use Rattle.desk_base.specs.rules.Limits.{serial_limit};
+ghost use Rattle.desk_base.specs.meaning.Efforts.{AreLightBookings};
+ghost use Rattle.desk_base.specs.meaning.Load.{Fits, ask_of};
+ghost use Rattle.desk_base.specs.rows.Lookups.{KeysRise};
+ghost use Rattle.desk_base.specs.rules.Sound.{IsSound};
+ghost use Rattle.desk_base.specs.asked.Steps.{bears_on_room, entry_of, IsConflict};
+ghost use Rattle.desk_base.specs.rules.TableLimits.{limit_of};
+ghost use Rattle.desk_base.specs.declared.rows.tables.Table.TheVariants.{Booking, Member};
 ghost use Rattle.desk_core.specs.Built.{IsServed};
 ghost use Rattle.desk_core.specs.Effects.{IsPlaced};
 ghost use Rattle.desk_core.specs.Entered.{act_bears_on_room, entered_outcome, CanBeTried, FitAfter, IsClashing, IsLateHindrance};

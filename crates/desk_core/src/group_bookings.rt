@@ -1,7 +1,7 @@
 //! The standing bookings of a group, and what bookings come to.
 ghost use Rattle.std.specs.Prelude.{◌≡◌, ◌-◌, ◌*◌, ◌≤◌, ◌^◌, length, IfOk};
-ghost use Rattle.desk_base.specs.Limits.{first_minute, end_of_minutes, node_limit};
-ghost use Rattle.desk_base.specs.Groups.{booked_for, effort_minutes, is_booked};
+ghost use Rattle.desk_base.specs.rules.Limits.{first_minute, end_of_minutes, node_limit};
+ghost use Rattle.desk_base.specs.asked.Groups.{booked_for, effort_minutes, is_booked};
 
 use desk_base::{BookingRow, GroupId, Tables};
 use std::alloc::{AllocError, Global};

@@ -1,10 +1,10 @@
 //! The bookings that picks make: one for each chosen leaf, in the order of the leaves.
 ghost use Rattle.std.specs.Prelude.{◌≡◌, ◌+◌, ◌≤◌, ◌++◌, nat_le, true, length, IfOk, OnOk};
 ghost use Rattle.std.specs.List.{list_all};
-ghost use Rattle.desk_base.specs.Acts.{bookings_from};
-ghost use Rattle.desk_base.specs.Limits.{end_of_minutes, serial_limit};
-ghost use Rattle.desk_base.specs.Picks.{choices_of};
-ghost use Rattle.desk_base.specs.Time.{leaf_time};
+ghost use Rattle.desk_base.specs.asked.Acts.{bookings_from};
+ghost use Rattle.desk_base.specs.rules.Limits.{end_of_minutes, serial_limit};
+ghost use Rattle.desk_base.specs.meaning.Picks.{choices_of};
+ghost use Rattle.desk_base.specs.meaning.Time.{leaf_time};
 
 use desk_base::{BookingId, BookingRow, GroupId, GroupRow, Leaf, LeafNo, Minute, ResourceId};
 use std::alloc::{AllocError, Global};

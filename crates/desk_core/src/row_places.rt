@@ -1,50 +1,22 @@
 //! Why a table has no place for the rows of a change: the first table that would pass its limit.
 ghost use Rattle.std.specs.Prelude.{◌≡◌, ◌+◌, ◌<◌, ◌^◌, ◌∷◌, [], length, nat_le, option_map};
-ghost use Rattle.desk_base.specs.Keys.{id_key};
-ghost use Rattle.desk_base.specs.Refusing.{booking_places, has_place, picked, refused_place, with_caller_place};
-ghost use Rattle.desk_base.specs.Rules.{first_broken};
-ghost use Rattle.desk_base.specs.Sound.{IsSound};
-ghost use Rattle.desk_base.specs.TableLimits.{limit_of};
-ghost use Rattle.desk_base.specs.declared.refusals.Refusal.TheVariants.{Full};
-ghost use Rattle.desk_base.specs.declared.tables.Table.TheVariants.{Booking, BookingNumbers, Caller};
+ghost use Rattle.desk_base.specs.rows.Keys.{id_key};
+ghost use Rattle.desk_base.specs.asked.Refusing.{booking_places, has_place, picked, refused_place, with_caller_place};
+ghost use Rattle.desk_base.specs.rules.Rules.{first_broken};
+ghost use Rattle.desk_base.specs.rules.Sound.{IsSound};
+ghost use Rattle.desk_base.specs.rules.TableLimits.{limit_of};
+ghost use Rattle.desk_base.specs.declared.asked.refusals.Refusal.TheVariants.{Full};
+ghost use Rattle.desk_base.specs.declared.rows.tables.Table.TheVariants.{Booking, BookingNumbers, Caller};
 ghost use Rattle.desk_core.specs.Built.{IsServed};
 
 use desk_base::{Act, Call, CallerId, Key, Refusal, ResourceId, Table, Tables};
-
-/// How many rows a table may have.
-fn limit_of(table: Table) -> usize
-    ensures { result ≡ limit_of table }
-{
-    match table {
-        Table::Zone => 64,
-        Table::Calendar => 2_000,
-        Table::Work => 40_000,
-        Table::Break => 40_000,
-        Table::Day => 100_000,
-        Table::Off => 100_000,
-        Table::Unit => 2_000,
-        Table::Site => 2_000,
-        Table::Role => 2_000,
-        Table::Characteristic => 2_000,
-        Table::Territory => 2_000,
-        Table::Resource => 4_000,
-        Table::HasRole => 40_000,
-        Table::HasCharacteristic => 40_000,
-        Table::HasTerritory => 40_000,
-        Table::Member => 20_000,
-        Table::Group => 50_000,
-        Table::Booking => 400_000,
-        Table::Caller => 10_000,
-        Table::BookingNumbers => 4_000_000_000,
-    }
-}
 
 /// Whether a row of this key has a place in its table: that of the row that stands under it, or one more.
 fn has_place(tables: &Tables, key: &Key) -> bool
     requires { IsSound tables.now }
     ensures { result ≡ has_place tables.now key.now }
 {
-    tables.contains(key) || tables.len_of(key.table) < limit_of(key.table)
+    tables.contains(key) || tables.len_of(key.table) < key.table.limit()
 }
 
 /// Why there is no place for the caller's row.
@@ -85,7 +57,7 @@ fn has_booking_places(tables: &Tables, new: usize) -> bool
     requires within { new < 2 ^ 63 }
     ensures { result ≡ nat_le (length tables.now.bookings + new) (limit_of Booking) }
 {
-    tables.bookings.len() + new <= limit_of(Table::Booking)
+    tables.bookings.len() + new <= Table::Booking.limit()
 }
 
 /// Whether so many new bookings have numbers.
@@ -93,7 +65,7 @@ fn has_booking_numbers(tables: &Tables, new: usize) -> bool
     requires { new < 2 ^ 63 }
     ensures { result ≡ nat_le (tables.now.last_booking + new) (limit_of BookingNumbers) }
 {
-    tables.last_booking as usize + new <= limit_of(Table::BookingNumbers)
+    tables.last_booking as usize + new <= Table::BookingNumbers.limit()
 }
 
 /// Why there is no place for a booking of each picked resource, for the caller's row, or for the numbers of the bookings.

@@ -1,28 +1,15 @@
 //! The field rules of rows, judged in the order in which they are named.
 ghost use Rattle.std.specs.Prelude.{◌≡◌, ◌==◌, ◌&&◌, nat_le, nat_lt, int_le, neg_ℤ, pos, not, map};
 ghost use Rattle.std.specs.List.{list_any, list_all};
-ghost use Rattle.desk_base.specs.Limits.{end_of_minutes, minutes_a_day};
-ghost use Rattle.desk_base.specs.Rules.{first_broken};
-ghost use Rattle.desk_base.specs.Fields.{is_within_range, is_name, overlaps, are_rising, begins_at, are_shifts, is_part_of_day, keeps_kind, zone_rules, calendar_rules, work_rules, named_rules, resource_rules};
+ghost use Rattle.desk_base.specs.rules.Limits.{end_of_minutes, minutes_a_day};
+ghost use Rattle.desk_base.specs.rules.Rules.{first_broken};
+ghost use Rattle.desk_base.specs.rules.Sound.{IsSound};
+ghost use Rattle.desk_base.specs.rules.Fields.{is_within_range, is_name, overlaps, are_rising, begins_at, are_shifts, is_part_of_day, keeps_kind, zone_rules, calendar_rules, work_rules, named_rules, resource_rules};
 
+use desk_base::limits::{
+    CAPACITY_LIMIT, END_OF_MINUTES, FIRST_MINUTE, ID_LIMIT, MINUTES_A_DAY, NAME_LIMIT, SHIFT_LIMIT,
+};
 use desk_base::{CalendarRow, Field, Name, NamedRow, ResourceRow, Tables, WorkRow, ZoneRow};
-
-/// Bytes of a name, at most.
-const NAME_LIMIT: u64 = 60;
-
-/// Shifts of a zone, at most.
-const SHIFT_LIMIT: usize = 256;
-
-/// 2000-01-01T00:00Z and 2100-01-01T00:00Z, in minutes.
-const FIRST_MINUTE: u32 = 15_778_080;
-
-const END_OF_MINUTES: u32 = 68_374_080;
-
-const MINUTES_A_DAY: u16 = 1440;
-
-const CAPACITY_LIMIT: u16 = 1000;
-
-const ID_LIMIT: u64 = 999_999_999;
 
 pub(crate) fn is_within_range(low: u64, high: u64, number: u64) -> bool
     ensures { result ≡ is_within_range low high number }
@@ -41,7 +28,7 @@ pub(crate) fn is_name(name: &Name) -> bool
     ensures { result ≡ is_name name.now }
 {
     let bytes = name.as_str().as_bytes();
-    is_within_range(1, NAME_LIMIT, bytes.len() as u64) && are_printable(bytes)
+    is_within_range(1, u64::from(NAME_LIMIT), bytes.len() as u64) && are_printable(bytes)
 }
 
 fn overlaps(from: u16, to: u16, other_from: u16, other_to: u16) -> bool
@@ -53,7 +40,7 @@ fn overlaps(from: u16, to: u16, other_from: u16, other_to: u16) -> bool
 fn is_part_of_day(from: u16, to: u16) -> bool
     ensures { result ≡ is_part_of_day from to }
 {
-    from < to && to <= MINUTES_A_DAY
+    from < to && u32::from(to) <= MINUTES_A_DAY
 }
 
 /// The first field rule that the zone breaks.
@@ -100,9 +87,9 @@ fn begins_at(minute: u32, shifts: &[(u32, i32)]) -> bool
 fn are_small(shifts: &[(u32, i32)]) -> bool
     ensures { result ≡ list_all (λ s. nat_le s.0 end_of_minutes && int_le (neg_ℤ (pos minutes_a_day)) s.1 && int_le s.1 (pos minutes_a_day)) shifts.now }
 {
-    shifts
-        .iter()
-        .all(|s| s.0 <= END_OF_MINUTES && -1440 <= s.1 && s.1 <= 1440)
+    shifts.iter().all(|s| s.0 <= END_OF_MINUTES
+        && -(MINUTES_A_DAY as i32) <= s.1
+        && s.1 <= MINUTES_A_DAY as i32)
 }
 
 fn are_shifts(shifts: &[(u32, i32)]) -> bool
@@ -158,7 +145,7 @@ pub(crate) fn broken_work(tables: &Tables, work: &WorkRow) -> Option<Field>
 pub(crate) fn broken_named(row: &NamedRow) -> Option<Field>
     ensures { result ≡ first_broken (named_rules row.now) }
 {
-    if !is_within_range(1, ID_LIMIT, u64::from(row.id)) {
+    if !is_within_range(1, u64::from(ID_LIMIT), u64::from(row.id)) {
         Some(Field::Id)
     } else if !is_name(&row.name) {
         Some(Field::Name)
@@ -169,6 +156,7 @@ pub(crate) fn broken_named(row: &NamedRow) -> Option<Field>
 
 /// The resource that stands under the same id, if any, has the same kind.
 fn keeps_kind(tables: &Tables, resource: &ResourceRow) -> bool
+    requires { IsSound tables.now }
     ensures { result ≡ keeps_kind tables.now resource.now }
 {
     match tables.resource(resource.id) {
@@ -179,6 +167,7 @@ fn keeps_kind(tables: &Tables, resource: &ResourceRow) -> bool
 
 /// The first field rule that the resource breaks among these tables.
 pub(crate) fn broken_resource(tables: &Tables, resource: &ResourceRow) -> Option<Field>
+    requires { IsSound tables.now }
     ensures { result ≡ first_broken (resource_rules tables.now resource.now) }
 {
     if !is_name(&resource.name) {

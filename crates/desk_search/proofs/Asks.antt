@@ -4,15 +4,15 @@ use Rattle.std.proofs.lemmas.Bool.Decides.{nat_tests}
 use Rattle.std.proofs.lemmas.List.{length-map}
 use Rattle.std.proofs.lemmas.List.Sums.{length-filter, count_by-le-length}
 use Rattle.std.specs.List.{list_all}
-use Rattle.desk_base.specs.declared.tables.Tables.{Tables}
-use Rattle.desk_base.specs.declared.group_rows.GroupRow.{GroupRow}
-use Rattle.desk_base.specs.declared.booking_rows.BookingRow.{BookingRow}
-use Rattle.desk_base.specs.declared.group_rows.Leaf.{Leaf}
-use Rattle.desk_base.specs.Limits.{end_of_minutes}
-use Rattle.desk_base.specs.Time.{leaf_time}
-use Rattle.desk_base.specs.Picks.{Choice, choices_of}
-use Rattle.desk_base.specs.Listing.{serves, other_asks, ask_for}
-use Rattle.desk_base.proofs.Tests.{and_left, and_right, and_both}
+use Rattle.desk_base.specs.declared.rows.tables.Tables.{Tables}
+use Rattle.desk_base.specs.declared.rows.groups.GroupRow.{GroupRow}
+use Rattle.desk_base.specs.declared.rows.bookings.BookingRow.{BookingRow}
+use Rattle.desk_base.specs.declared.rows.groups.Leaf.{Leaf}
+use Rattle.desk_base.specs.rules.Limits.{end_of_minutes}
+use Rattle.desk_base.specs.meaning.Time.{leaf_time}
+use Rattle.desk_base.specs.meaning.Picks.{Choice, choices_of}
+use Rattle.desk_base.specs.search.Listing.{serves, other_asks, ask_for}
+use Rattle.desk_base.proofs.lists.Tests.{and_left, and_right, and_both}
 use Rattle.desk_search.proofs.Tests.{served, leaf_end}
 
 end_fits : (t : Tables) (g : GroupRow) (s : ℕ) (c : Choice) → g.to ≤ end_of_minutes → serves t g s c ≡ true → nat_le (leaf_time c.leaf s).to end_of_minutes ≡ true

@@ -4,14 +4,14 @@ use Rattle.std.proofs.Math.Seq.{take-length}
 use Rattle.std.proofs.lemmas.Bool.{false≢true}
 use Rattle.std.proofs.lemmas.List.{length-take-le, length-map, append-nil}
 use Rattle.std.specs.Prelude.{Contains, MatchOption}
-use Rattle.desk_base.specs.declared.group_rows.GroupRow.{GroupRow}
-use Rattle.desk_base.specs.declared.group_rows.Node.{Node}
-use Rattle.desk_base.specs.Trees.{trees_of, tree_of, patterns, leaf_count}
-use Rattle.desk_base.specs.Picks.{pattern_of}
-use Rattle.desk_base.specs.Listing.{BeginsPattern}
-use Rattle.desk_base.specs.Verdicts.{LacksPick, Strays, IsBadShape}
-use Rattle.desk_base.proofs.Members.{in_from_contains}
-use Rattle.desk_base.proofs.Patterns.{length-pattern}
+use Rattle.desk_base.specs.declared.rows.groups.GroupRow.{GroupRow}
+use Rattle.desk_base.specs.declared.rows.groups.Node.{Node}
+use Rattle.desk_base.specs.meaning.Trees.{trees_of, tree_of, patterns, leaf_count}
+use Rattle.desk_base.specs.meaning.Picks.{pattern_of}
+use Rattle.desk_base.specs.search.Listing.{BeginsPattern}
+use Rattle.desk_base.specs.search.Verdicts.{LacksPick, Strays, IsBadShape}
+use Rattle.desk_base.proofs.lists.Members.{in_from_contains}
+use Rattle.desk_base.proofs.meaning.Patterns.{length-pattern}
 use Rattle.desk_search.specs.declared.search.trees.Part.{Part}
 use Rattle.desk_search.specs.Parts.{part_of, lists_of_first}
 use Rattle.desk_search.specs.Shapes.{BeginWith, IsFirstStray}

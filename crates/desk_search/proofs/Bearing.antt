@@ -6,21 +6,21 @@ use Rattle.std.proofs.lemmas.List.Sums.{sum_by-cons}
 use Rattle.std.specs.Prelude.{IfSome, MatchOption, find, filter, fold, sum_by, option_and_then}
 use Rattle.std.specs.List.{list_any}
 use Rattle.std.specs.Option.{option_map_or}
-use Rattle.desk_base.specs.declared.tables.Tables.{Tables}
-use Rattle.desk_base.specs.declared.resource_rows.ResourceRow.{ResourceRow}
-use Rattle.desk_base.specs.declared.resource_rows.MemberRow.{MemberRow}
-use Rattle.desk_base.specs.declared.calendar_rows.ZoneRow.{ZoneRow}
-use Rattle.desk_base.specs.declared.calendar_rows.CalendarRow.{CalendarRow}
-use Rattle.desk_base.specs.declared.calendar_rows.WorkRow.{WorkRow}
-use Rattle.desk_base.specs.declared.calendar_rows.BreakRow.{BreakRow}
-use Rattle.desk_base.specs.declared.calendar_rows.DayRow.{DayRow}
-use Rattle.desk_base.specs.declared.calendar_rows.OffRow.{OffRow}
-use Rattle.desk_base.specs.declared.searches.Ask.{Ask}
-use Rattle.desk_base.specs.Time.{covers, local_time, LocalTime, weekday_of}
-use Rattle.desk_base.specs.Capacity.{resource_of, calendar_of, shifts_of, calendar_capacity, capacity}
-use Rattle.desk_base.specs.Load.{LoadSort, plain, crew, pool, unknown, sort_of, sort_of_kind, is_crew, members, loads, effort_at, own_load, plain_load, load, load_by, weight, room, room_by, room_of_crew, IsWithinRoom, Fits}
-use Rattle.desk_base.proofs.Members.{IsIn, in-map, in-filter, in_left, in_right}
-use Rattle.desk_base.proofs.Tests.{find_cases, and_left, and_right, list_any_at, list_any_from, sum_by_none}
+use Rattle.desk_base.specs.declared.rows.tables.Tables.{Tables}
+use Rattle.desk_base.specs.declared.rows.resources.ResourceRow.{ResourceRow}
+use Rattle.desk_base.specs.declared.rows.resources.MemberRow.{MemberRow}
+use Rattle.desk_base.specs.declared.rows.calendars.ZoneRow.{ZoneRow}
+use Rattle.desk_base.specs.declared.rows.calendars.CalendarRow.{CalendarRow}
+use Rattle.desk_base.specs.declared.rows.calendars.WorkRow.{WorkRow}
+use Rattle.desk_base.specs.declared.rows.calendars.BreakRow.{BreakRow}
+use Rattle.desk_base.specs.declared.rows.calendars.DayRow.{DayRow}
+use Rattle.desk_base.specs.declared.rows.calendars.OffRow.{OffRow}
+use Rattle.desk_base.specs.declared.search.results.Ask.{Ask}
+use Rattle.desk_base.specs.meaning.Time.{covers, local_time, LocalTime, weekday_of}
+use Rattle.desk_base.specs.meaning.Capacity.{resource_of, calendar_of, shifts_of, calendar_capacity, capacity}
+use Rattle.desk_base.specs.meaning.Load.{LoadSort, plain, crew, pool, unknown, sort_of, sort_of_kind, is_crew, members, loads, effort_at, own_load, plain_load, load, load_by, weight, room, room_by, room_of_crew, IsWithinRoom, Fits}
+use Rattle.desk_base.proofs.lists.Members.{IsIn, in-map, in-filter, in_left, in_right}
+use Rattle.desk_base.proofs.lists.Tests.{find_cases, and_left, and_right, list_any_at, list_any_from, sum_by_none}
 use Rattle.desk_search.specs.Rooms.{has_room_at}
 use Rattle.desk_search.specs.Clashes.{IsFirstOver}
 use Rattle.desk_search.specs.Extracts.{is_listed, with_id, booked_ids, with_members, with_groups, calendars_of, zones_of, resources_among, calendars_among, extract_by, extract, bearing}

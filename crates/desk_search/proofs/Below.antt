@@ -6,18 +6,18 @@ use Rattle.std.proofs.lemmas.List.{append-nil, map-append, take_more, take_all}
 use Rattle.std.proofs.lemmas.List.Elements.{filter-append}
 use Rattle.std.specs.Prelude.{flat_map}
 use Rattle.std.specs.List.{range_with_len}
-use Rattle.desk_base.specs.declared.group_rows.GroupRow.{GroupRow}
-use Rattle.desk_base.specs.declared.tables.Tables.{Tables}
-use Rattle.desk_base.specs.declared.searches.Position.{Position}
-use Rattle.desk_base.specs.declared.searches.Options.{Options}
-use Rattle.desk_base.specs.Load.{Fits}
-use Rattle.desk_base.specs.Trees.{tree_of, leaf_count}
-use Rattle.desk_base.specs.Positions.{position_at}
-use Rattle.desk_base.specs.Listing.{other_asks, IsLive}
+use Rattle.desk_base.specs.declared.rows.groups.GroupRow.{GroupRow}
+use Rattle.desk_base.specs.declared.rows.tables.Tables.{Tables}
+use Rattle.desk_base.specs.declared.search.results.Position.{Position}
+use Rattle.desk_base.specs.declared.search.results.Options.{Options}
+use Rattle.desk_base.specs.meaning.Load.{Fits}
+use Rattle.desk_base.specs.meaning.Trees.{tree_of, leaf_count}
+use Rattle.desk_base.specs.search.Positions.{position_at}
+use Rattle.desk_base.specs.search.Listing.{other_asks, IsLive}
 use Rattle.desk_search.specs.Tests.{is_live}
 use Rattle.desk_search.specs.Places.{choices, prefixes, places_at, live_places, live_from, live_below, live_among, live_before}
-use Rattle.desk_base.proofs.Members.{IsIn, in-map, in-filter}
-use Rattle.desk_base.proofs.Prefixes.{prefix_live}
+use Rattle.desk_base.proofs.lists.Members.{IsIn, in-map, in-filter}
+use Rattle.desk_base.proofs.searched.Prefixes.{prefix_live}
 use Rattle.desk_search.proofs.Tests.{IsInHorizon, live_decides}
 
 abbrev begun : List (List (Option ℕ)) → Option ℕ → List (List (Option ℕ))

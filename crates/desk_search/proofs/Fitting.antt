@@ -4,15 +4,15 @@ use Rattle.std.proofs.lemmas.Bool.Decides.{nat_tests}
 use Rattle.std.specs.Prelude.{IfSome}
 use Rattle.std.specs.Bool.{Decides}
 use Rattle.std.specs.List.{list_all}
-use Rattle.desk_base.specs.declared.tables.Tables.{Tables}
-use Rattle.desk_base.specs.declared.resource_rows.ResourceRow.{ResourceRow}
-use Rattle.desk_base.specs.declared.searches.Ask.{Ask}
-use Rattle.desk_base.specs.Time.{covers, minutes_of, IsMinute}
-use Rattle.desk_base.specs.Load.{weight, room, IsWithinRoom, Fits}
+use Rattle.desk_base.specs.declared.rows.tables.Tables.{Tables}
+use Rattle.desk_base.specs.declared.rows.resources.ResourceRow.{ResourceRow}
+use Rattle.desk_base.specs.declared.search.results.Ask.{Ask}
+use Rattle.desk_base.specs.meaning.Time.{covers, minutes_of, IsMinute}
+use Rattle.desk_base.specs.meaning.Load.{weight, room, IsWithinRoom, Fits}
 use Rattle.desk_search.specs.Rooms.{is_within_room, has_room_at, have_room_at, have_room_during, have_room}
-use Rattle.desk_base.proofs.Rooms.{weight-quiet, unknown_fits}
-use Rattle.desk_base.proofs.Members.{IsIn}
-use Rattle.desk_base.proofs.Tests.{list_all_at, list_all_from, some_or_none, find_cases, in_range, from_range}
+use Rattle.desk_base.proofs.meaning.Rooms.{weight-quiet, unknown_fits}
+use Rattle.desk_base.proofs.lists.Members.{IsIn}
+use Rattle.desk_base.proofs.lists.Tests.{list_all_at, list_all_from, some_or_none, find_cases, in_range, from_range}
 
 pub within_room_decides : (w : ℕ) (n : Option ℕ) → Decides (is_within_room w n) (IfSome n (λ k. w ≤ k))
 within_room_decides w None = (λ _. tt, λ _. refl)

@@ -10,7 +10,6 @@ pub mod Picked
 pub mod Bearing
 pub mod Tests
 pub mod BadShapes
-pub mod SomePatterns
 pub mod PlaceRefusals
 pub mod Asks
 pub mod Places

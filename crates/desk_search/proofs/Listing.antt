@@ -3,10 +3,10 @@ use Rattle.std.proofs.Common.{◌≡◌, ℕ, ◌+◌, ◌-◌, ◌<◌, suc, Bo
 use Rattle.std.proofs.lemmas.List.{take_more}
 use Rattle.std.proofs.lemmas.List.Elements.{filter-append}
 use Rattle.std.specs.List.{last_or}
-use Rattle.desk_base.specs.declared.searches.Found.{Found}
-use Rattle.desk_base.specs.declared.searches.Position.{Position}
-use Rattle.desk_base.specs.Positions.{rows_among}
-use Rattle.desk_base.proofs.Pages.{rows_among-append}
+use Rattle.desk_base.specs.declared.search.results.Found.{Found}
+use Rattle.desk_base.specs.declared.search.results.Position.{Position}
+use Rattle.desk_base.specs.search.Positions.{rows_among}
+use Rattle.desk_base.proofs.searched.Pages.{rows_among-append}
 
 -- the rows of the first i + 1, after those of the first i
 pub next_position : (leaves : ℕ) (ps : List Position) (i : ℕ) (x : Position) (us vs : List Found) → i < length ps → x ≡ get_or ps i x → us ≡ rows_among leaves (take i ps) → vs ≡ us ++ rows_among leaves (x ∷ []) → vs ≡ rows_among leaves (take (i + 1) ps)

@@ -3,20 +3,20 @@ use Rattle.std.proofs.Common.{◌≡◌, ℕ, ◌+◌, ◌-◌, ◌%◌, ◌<◌
 use Rattle.std.proofs.lemmas.Bool.Decides.{nat_tests}
 use Rattle.std.specs.Prelude.{fold}
 use Rattle.std.specs.Option.{option_map_or}
-use Rattle.desk_base.specs.declared.tables.Tables.{Tables}
-use Rattle.desk_base.specs.declared.resource_rows.ResourceRow.{ResourceRow}
-use Rattle.desk_base.specs.declared.calendar_rows.ZoneRow.{ZoneRow}
-use Rattle.desk_base.specs.declared.calendar_rows.WorkRow.{WorkRow}
-use Rattle.desk_base.specs.declared.calendar_rows.BreakRow.{BreakRow}
-use Rattle.desk_base.specs.declared.calendar_rows.DayRow.{DayRow}
-use Rattle.desk_base.specs.declared.calendar_rows.OffRow.{OffRow}
-use Rattle.desk_base.specs.declared.resource_rows.MemberRow.{MemberRow}
-use Rattle.desk_base.specs.declared.searches.Ask.{Ask}
-use Rattle.desk_base.specs.Limits.{minutes_a_day, end_of_minutes}
-use Rattle.desk_base.specs.Time.{clock_minute}
-use Rattle.desk_base.specs.Capacity.{shifts_of}
-use Rattle.desk_base.specs.Load.{IsWithinRoom}
-use Rattle.desk_base.proofs.Members.{IsIn}
+use Rattle.desk_base.specs.declared.rows.tables.Tables.{Tables}
+use Rattle.desk_base.specs.declared.rows.resources.ResourceRow.{ResourceRow}
+use Rattle.desk_base.specs.declared.rows.calendars.ZoneRow.{ZoneRow}
+use Rattle.desk_base.specs.declared.rows.calendars.WorkRow.{WorkRow}
+use Rattle.desk_base.specs.declared.rows.calendars.BreakRow.{BreakRow}
+use Rattle.desk_base.specs.declared.rows.calendars.DayRow.{DayRow}
+use Rattle.desk_base.specs.declared.rows.calendars.OffRow.{OffRow}
+use Rattle.desk_base.specs.declared.rows.resources.MemberRow.{MemberRow}
+use Rattle.desk_base.specs.declared.search.results.Ask.{Ask}
+use Rattle.desk_base.specs.rules.Limits.{minutes_a_day, end_of_minutes}
+use Rattle.desk_base.specs.meaning.Time.{clock_minute}
+use Rattle.desk_base.specs.meaning.Capacity.{shifts_of}
+use Rattle.desk_base.specs.meaning.Load.{IsWithinRoom}
+use Rattle.desk_base.proofs.lists.Members.{IsIn}
 use Rattle.desk_search.specs.Clashes.{nearer, next_start}
 use Rattle.desk_search.specs.Events.{nearer_bound, minutes_until, nearer_time, after_works, after_breaks, after_times, after_clock, after_resources, after_zones, after_members, after_offs, next_event}
 use Rattle.desk_search.proofs.Overs.{nearer_after, nearer_below, nearer_at, nearest_is}

@@ -5,19 +5,19 @@ use Rattle.std.proofs.lemmas.Bool.Decides.{nat_tests}
 use Rattle.std.proofs.Math.Nat.{mul-le-mul_left}
 use Rattle.std.proofs.lemmas.List.{take_more}
 use Rattle.std.specs.Prelude.{IfSome, fold, find}
-use Rattle.desk_base.specs.declared.tables.Tables.{Tables}
-use Rattle.desk_base.specs.declared.resource_rows.ResourceRow.{ResourceRow}
-use Rattle.desk_base.specs.declared.searches.Ask.{Ask}
-use Rattle.desk_base.specs.declared.booking_rows.BookingRow.{BookingRow}
-use Rattle.desk_base.specs.Limits.{end_of_minutes, effort_limit}
-use Rattle.desk_base.specs.TableLimits.{limit_of}
-use Rattle.desk_base.specs.declared.tables.Table.TheVariants.{Member as MemberTable}
-use Rattle.desk_base.specs.Time.{covers, IsMinute}
-use Rattle.desk_base.specs.Load.{weight, room, IsWithinRoom, Fits, IsClash, ask_of}
-use Rattle.desk_base.proofs.Members.{IsIn}
-use Rattle.desk_base.proofs.Sums.{weight-append}
-use Rattle.desk_base.proofs.Rooms.{weight-quiet, unknown_fits}
-use Rattle.desk_base.proofs.Tests.{find_cases, list_any_from}
+use Rattle.desk_base.specs.declared.rows.tables.Tables.{Tables}
+use Rattle.desk_base.specs.declared.rows.resources.ResourceRow.{ResourceRow}
+use Rattle.desk_base.specs.declared.search.results.Ask.{Ask}
+use Rattle.desk_base.specs.declared.rows.bookings.BookingRow.{BookingRow}
+use Rattle.desk_base.specs.rules.Limits.{end_of_minutes, effort_limit}
+use Rattle.desk_base.specs.rules.TableLimits.{limit_of}
+use Rattle.desk_base.specs.declared.rows.tables.Table.TheVariants.{Member as MemberTable}
+use Rattle.desk_base.specs.meaning.Time.{covers, IsMinute}
+use Rattle.desk_base.specs.meaning.Load.{weight, room, IsWithinRoom, Fits, IsClash, ask_of}
+use Rattle.desk_base.proofs.lists.Members.{IsIn}
+use Rattle.desk_base.proofs.meaning.Sums.{weight-append}
+use Rattle.desk_base.proofs.meaning.Rooms.{weight-quiet, unknown_fits}
+use Rattle.desk_base.proofs.lists.Tests.{find_cases, list_any_from}
 use Rattle.desk_search.specs.Rooms.{is_within_room, has_room_at}
 use Rattle.desk_search.specs.Clashes.{lesser, next_over, least_over, is_busy, nearer, next_start, IsFirstOver}
 use Rattle.desk_search.proofs.Fitting.{within_room_decides}

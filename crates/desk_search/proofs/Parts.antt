@@ -1,10 +1,10 @@
 -- Parts of a tree and the tree.
 use Rattle.std.proofs.Common.{◌≡◌, ℕ, suc, ◌+◌, ◌-◌, ◌<◌, ◌≤◌, ◌^◌, Bool, true, false, cond, List, [], ◌∷◌, ◌++◌, map, length, take, drop, get_or, replicate, refl, sym, ap, ◌∙◌, subst, arith, nat_lt}
 use Rattle.std.proofs.lemmas.List.{take_more, take_all, append-nil}
-use Rattle.desk_base.specs.declared.group_rows.Node.{Node}
-use Rattle.desk_base.specs.declared.group_rows.NodeKind.{NodeKind}
-use Rattle.desk_base.specs.declared.group_rows.NodeKind.TheVariants.{All, Any, Leaf}
-use Rattle.desk_base.specs.Trees.{Trees, none, tree_and, PlacedTree, children, siblings_after, tree_by, trees_of, tree_of, tree_of_placed, patterns, all_patterns, any_patterns, concatenations, leaf_count, leaf_counts}
+use Rattle.desk_base.specs.declared.rows.groups.Node.{Node}
+use Rattle.desk_base.specs.declared.rows.groups.NodeKind.{NodeKind}
+use Rattle.desk_base.specs.declared.rows.groups.NodeKind.TheVariants.{All, Any, Leaf}
+use Rattle.desk_base.specs.meaning.Trees.{Trees, none, tree_and, PlacedTree, children, siblings_after, tree_by, trees_of, tree_of, tree_of_placed, patterns, all_patterns, any_patterns, concatenations, leaf_count, leaf_counts}
 use Rattle.desk_search.specs.declared.search.trees.Part.{Part}
 use Rattle.desk_search.specs.Parts.{part_of, parts_under, parts_beside, total_size, joined_lists, lists_of_one, part_by, lists_of_first}
 use Rattle.std.proofs.lemmas.Grind.{flat_map-append}

@@ -3,7 +3,7 @@ use Rattle.std.proofs.Common.{◌≡◌, ℕ, ◌+◌, ◌<◌, Bool, cond, List
 use Rattle.std.proofs.lemmas.List.{take_more}
 use Rattle.std.proofs.lemmas.List.Elements.{filter-append}
 use Rattle.std.specs.Prelude.{filter}
-use Rattle.desk_base.specs.declared.tables.Tables.{Tables}
+use Rattle.desk_base.specs.declared.rows.tables.Tables.{Tables}
 use Rattle.desk_search.specs.Extracts.{calendars_of, zones_of, resources_among, calendars_among, extract_by, extract}
 
 -- the rows of the first i + 1 that pass, after those of the first i

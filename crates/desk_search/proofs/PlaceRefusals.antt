@@ -5,29 +5,29 @@ use Rattle.std.proofs.lemmas.List.{length-map}
 use Rattle.std.specs.Prelude.{option_map}
 use Rattle.std.specs.List.{list_all}
 use Rattle.std.specs.Option.{option_or}
-use Rattle.desk_base.specs.declared.tables.Tables.{Tables}
-use Rattle.desk_base.specs.declared.group_rows.GroupRow.{GroupRow}
-use Rattle.desk_base.specs.declared.booking_rows.BookingRow.{BookingRow}
-use Rattle.desk_base.specs.declared.searches.Ask.{Ask}
-use Rattle.desk_base.specs.declared.refusals.Clash.{Clash}
-use Rattle.desk_base.specs.declared.refusals.Refusal.{Refusal}
-use Rattle.desk_base.specs.declared.refusals.Refusal.TheVariants.{Conflict}
-use Rattle.desk_base.specs.declared.rules.LeafRule.{LeafRule}
-use Rattle.desk_base.specs.declared.tables.Table.TheVariants.{Member as MemberTable, Booking as BookingTable}
-use Rattle.desk_base.specs.declared.tables.AnyRow.TheVariants.{Member, Booking}
-use Rattle.desk_base.specs.TableLimits.{limit_of}
-use Rattle.desk_base.specs.Efforts.{AreLightBookings}
-use Rattle.desk_base.specs.Sound.{AreWellFormed}
-use Rattle.desk_base.specs.Eligible.{first_broken_at}
-use Rattle.desk_base.specs.Load.{Fits}
-use Rattle.desk_base.specs.Picks.{Choice, choices_of, first_broken_same}
-use Rattle.desk_base.specs.Listing.{IsFeasible, serves, other_asks, asks_for}
-use Rattle.desk_base.specs.Verdicts.{Unserved, first_unserved, HasShape, IsServed}
-use Rattle.desk_base.specs.Steps.{others_of, IsConflict, IsPlaceRefusal}
-use Rattle.desk_base.proofs.Clashes.{clash-not_fits}
-use Rattle.desk_base.proofs.Members.{in-filter}
-use Rattle.desk_base.proofs.Efforts.{some_light}
-use Rattle.desk_base.proofs.Tests.{and_both}
+use Rattle.desk_base.specs.declared.rows.tables.Tables.{Tables}
+use Rattle.desk_base.specs.declared.rows.groups.GroupRow.{GroupRow}
+use Rattle.desk_base.specs.declared.rows.bookings.BookingRow.{BookingRow}
+use Rattle.desk_base.specs.declared.search.results.Ask.{Ask}
+use Rattle.desk_base.specs.declared.asked.refusals.Clash.{Clash}
+use Rattle.desk_base.specs.declared.asked.refusals.Refusal.{Refusal}
+use Rattle.desk_base.specs.declared.asked.refusals.Refusal.TheVariants.{Conflict}
+use Rattle.desk_base.specs.declared.asked.rules.LeafRule.{LeafRule}
+use Rattle.desk_base.specs.declared.rows.tables.Table.TheVariants.{Member as MemberTable, Booking as BookingTable}
+use Rattle.desk_base.specs.declared.rows.tables.AnyRow.TheVariants.{Member, Booking}
+use Rattle.desk_base.specs.rules.TableLimits.{limit_of}
+use Rattle.desk_base.specs.meaning.Efforts.{AreLightBookings}
+use Rattle.desk_base.specs.rules.Sound.{AreWellFormed}
+use Rattle.desk_base.specs.meaning.Eligible.{first_broken_at}
+use Rattle.desk_base.specs.meaning.Load.{Fits}
+use Rattle.desk_base.specs.meaning.Picks.{Choice, choices_of, first_broken_same}
+use Rattle.desk_base.specs.search.Listing.{IsFeasible, serves, other_asks, asks_for}
+use Rattle.desk_base.specs.search.Verdicts.{Unserved, first_unserved, HasShape, IsServed}
+use Rattle.desk_base.specs.asked.Steps.{others_of, IsConflict, IsPlaceRefusal}
+use Rattle.desk_base.proofs.meaning.Clashes.{clash-not_fits}
+use Rattle.desk_base.proofs.lists.Members.{in-filter}
+use Rattle.desk_base.proofs.meaning.Efforts.{some_light}
+use Rattle.desk_base.proofs.lists.Tests.{and_both}
 use Rattle.desk_search.specs.PlaceRefusals.{not_eligible}
 use Rattle.desk_search.proofs.Asks.{length_asks, length_filtered}
 

@@ -11,26 +11,26 @@ use Rattle.std.specs.declared.cmp.Ordering.{Ordering}
 use Rattle.std.specs.declared.cmp.Ordering.TheVariants.{Less}
 use Rattle.std.specs.Ordering.{nat_cmp}
 use Rattle.std.specs.Cmp.Lexicographic.{slice_cmp}
-use Rattle.desk_base.specs.declared.resource_rows.ResourceRow.{ResourceRow}
-use Rattle.desk_base.specs.declared.group_rows.GroupRow.{GroupRow}
-use Rattle.desk_base.specs.declared.group_rows.Leaf.{Leaf}
-use Rattle.desk_base.specs.declared.tables.Tables.{Tables}
-use Rattle.desk_base.specs.declared.searches.Position.{Position}
-use Rattle.desk_base.specs.declared.searches.Options.{Options}
-use Rattle.desk_base.specs.declared.rules.LeafRule.TheVariants.{Kind}
-use Rattle.desk_base.specs.Rules.{first_broken}
-use Rattle.desk_base.specs.Eligible.{first_broken_rule, first_broken_at, eligibility}
-use Rattle.desk_base.specs.Load.{Fits}
-use Rattle.desk_base.specs.Trees.{tree_of, patterns, leaf_count}
-use Rattle.desk_base.specs.Picks.{choices_of, pattern_of}
-use Rattle.desk_base.specs.Order.{pick_cmp, position_cmp}
-use Rattle.desk_base.specs.Positions.{position_at}
-use Rattle.desk_base.specs.Listing.{serves, other_asks, IsLive, IsLiveList}
+use Rattle.desk_base.specs.declared.rows.resources.ResourceRow.{ResourceRow}
+use Rattle.desk_base.specs.declared.rows.groups.GroupRow.{GroupRow}
+use Rattle.desk_base.specs.declared.rows.groups.Leaf.{Leaf}
+use Rattle.desk_base.specs.declared.rows.tables.Tables.{Tables}
+use Rattle.desk_base.specs.declared.search.results.Position.{Position}
+use Rattle.desk_base.specs.declared.search.results.Options.{Options}
+use Rattle.desk_base.specs.declared.asked.rules.LeafRule.TheVariants.{Kind}
+use Rattle.desk_base.specs.rules.Rules.{first_broken}
+use Rattle.desk_base.specs.meaning.Eligible.{first_broken_rule, first_broken_at, eligibility}
+use Rattle.desk_base.specs.meaning.Load.{Fits}
+use Rattle.desk_base.specs.meaning.Trees.{tree_of, patterns, leaf_count}
+use Rattle.desk_base.specs.meaning.Picks.{choices_of, pattern_of}
+use Rattle.desk_base.specs.search.Order.{pick_cmp, position_cmp}
+use Rattle.desk_base.specs.search.Positions.{position_at}
+use Rattle.desk_base.specs.search.Listing.{serves, other_asks, IsLive, IsLiveList}
 use Rattle.desk_search.specs.Tests.{is_live}
 use Rattle.desk_search.specs.Places.{choices, prefixes, places_at, places, live_places}
-use Rattle.desk_base.proofs.Members.{IsIn, all_from, all_at, in_left, in_right, in-map, in-flat_map, in_mapped, in_flat, in-filter, in_filtered, contains_from_in, in_from_contains, sorted-append, sorted-map, sorted-flat_map}
-use Rattle.desk_base.proofs.Tests.{and_left, and_right, find_cases, in_range, from_range}
-use Rattle.desk_base.proofs.Patterns.{length-pattern, nat_cmp-same, nat_cmp-less, pick_cmp-same, then-same, then-less}
+use Rattle.desk_base.proofs.lists.Members.{IsIn, all_from, all_at, in_left, in_right, in-map, in-flat_map, in_mapped, in_flat, in-filter, in_filtered, contains_from_in, in_from_contains, sorted-append, sorted-map, sorted-flat_map}
+use Rattle.desk_base.proofs.lists.Tests.{and_left, and_right, find_cases, in_range, from_range}
+use Rattle.desk_base.proofs.meaning.Patterns.{length-pattern, nat_cmp-same, nat_cmp-less, pick_cmp-same, then-same, then-less}
 use Rattle.desk_search.proofs.Tests.{IsInHorizon, served, live_decides}
 
 -- ---- the choices and the starts rise

@@ -5,22 +5,22 @@ use Rattle.std.proofs.lemmas.List.Sums.{sum_by-cons}
 use Rattle.std.specs.Prelude.{IfSome, find, filter, sum_by, option_and_then}
 use Rattle.std.specs.List.{list_any}
 use Rattle.std.specs.Option.{option_map_or, option_or}
-use Rattle.desk_base.specs.declared.tables.Tables.{Tables}
-use Rattle.desk_base.specs.declared.resource_rows.ResourceRow.{ResourceRow}
-use Rattle.desk_base.specs.declared.calendar_rows.ZoneRow.{ZoneRow}
-use Rattle.desk_base.specs.declared.calendar_rows.CalendarRow.{CalendarRow}
-use Rattle.desk_base.specs.declared.calendar_rows.WorkRow.{WorkRow}
-use Rattle.desk_base.specs.declared.calendar_rows.BreakRow.{BreakRow}
-use Rattle.desk_base.specs.declared.calendar_rows.DayRow.{DayRow}
-use Rattle.desk_base.specs.declared.calendar_rows.OffRow.{OffRow}
-use Rattle.desk_base.specs.declared.resource_rows.MemberRow.{MemberRow}
-use Rattle.desk_base.specs.declared.searches.Ask.{Ask}
-use Rattle.desk_base.specs.Limits.{minutes_a_day}
-use Rattle.desk_base.specs.Time.{covers, minute_of, last_begun, offset_at, clock_minute, local_time, weekday_of}
-use Rattle.desk_base.specs.Capacity.{calendar_of, shifts_of, calendar_capacity, capacity}
-use Rattle.desk_base.specs.Load.{LoadSort, plain, crew, pool, unknown, sort_of, is_crew, members, loads, effort_at, own_load, plain_load, load, load_by, weight, room, room_by, room_of_crew, IsWithinRoom}
-use Rattle.desk_base.proofs.Members.{IsIn}
-use Rattle.desk_base.proofs.Tests.{find_cases}
+use Rattle.desk_base.specs.declared.rows.tables.Tables.{Tables}
+use Rattle.desk_base.specs.declared.rows.resources.ResourceRow.{ResourceRow}
+use Rattle.desk_base.specs.declared.rows.calendars.ZoneRow.{ZoneRow}
+use Rattle.desk_base.specs.declared.rows.calendars.CalendarRow.{CalendarRow}
+use Rattle.desk_base.specs.declared.rows.calendars.WorkRow.{WorkRow}
+use Rattle.desk_base.specs.declared.rows.calendars.BreakRow.{BreakRow}
+use Rattle.desk_base.specs.declared.rows.calendars.DayRow.{DayRow}
+use Rattle.desk_base.specs.declared.rows.calendars.OffRow.{OffRow}
+use Rattle.desk_base.specs.declared.rows.resources.MemberRow.{MemberRow}
+use Rattle.desk_base.specs.declared.search.results.Ask.{Ask}
+use Rattle.desk_base.specs.rules.Limits.{minutes_a_day}
+use Rattle.desk_base.specs.meaning.Time.{covers, minute_of, last_begun, offset_at, clock_minute, local_time, weekday_of}
+use Rattle.desk_base.specs.meaning.Capacity.{calendar_of, shifts_of, calendar_capacity, capacity}
+use Rattle.desk_base.specs.meaning.Load.{LoadSort, plain, crew, pool, unknown, sort_of, is_crew, members, loads, effort_at, own_load, plain_load, load, load_by, weight, room, room_by, room_of_crew, IsWithinRoom}
+use Rattle.desk_base.proofs.lists.Members.{IsIn}
+use Rattle.desk_base.proofs.lists.Tests.{find_cases}
 
 -- ---- tests that do not change
 

@@ -6,24 +6,24 @@ use Rattle.std.specs.Prelude.{Contains, ⊤}
 use Rattle.std.specs.Bool.{Decides}
 use Rattle.std.specs.List.{list_all}
 use Rattle.std.specs.Option.{option_map_or, option_or}
-use Rattle.desk_base.specs.Time.{leaf_time}
-use Rattle.desk_base.specs.declared.group_rows.GroupRow.{GroupRow}
-use Rattle.desk_base.specs.declared.group_rows.Leaf.{Leaf}
-use Rattle.desk_base.specs.declared.tables.Tables.{Tables}
-use Rattle.desk_base.specs.declared.searches.Position.{Position}
-use Rattle.desk_base.specs.declared.searches.Options.{Options}
-use Rattle.desk_base.specs.declared.searches.Ask.{Ask}
-use Rattle.desk_base.specs.declared.rules.LeafRule.{LeafRule}
-use Rattle.desk_base.specs.declared.rules.LeafRule.TheVariants.{Window as OutsideWindow}
-use Rattle.desk_base.specs.Limits.{first_minute, end_of_minutes}
-use Rattle.desk_base.specs.Eligible.{first_broken_rule, first_broken_at, is_in_windows}
-use Rattle.desk_base.specs.Load.{Fits}
-use Rattle.desk_base.specs.Trees.{tree_of, patterns}
-use Rattle.desk_base.specs.Picks.{Choice, choices_of, pattern_of, first_broken_same}
-use Rattle.desk_base.specs.Listing.{IsOnGrid, serves, other_asks, ask_for, asks_for, IsWithinOptions, IsLive}
+use Rattle.desk_base.specs.meaning.Time.{leaf_time}
+use Rattle.desk_base.specs.declared.rows.groups.GroupRow.{GroupRow}
+use Rattle.desk_base.specs.declared.rows.groups.Leaf.{Leaf}
+use Rattle.desk_base.specs.declared.rows.tables.Tables.{Tables}
+use Rattle.desk_base.specs.declared.search.results.Position.{Position}
+use Rattle.desk_base.specs.declared.search.results.Options.{Options}
+use Rattle.desk_base.specs.declared.search.results.Ask.{Ask}
+use Rattle.desk_base.specs.declared.asked.rules.LeafRule.{LeafRule}
+use Rattle.desk_base.specs.declared.asked.rules.LeafRule.TheVariants.{Window as OutsideWindow}
+use Rattle.desk_base.specs.rules.Limits.{first_minute, end_of_minutes}
+use Rattle.desk_base.specs.meaning.Eligible.{first_broken_rule, first_broken_at, is_in_windows}
+use Rattle.desk_base.specs.meaning.Load.{Fits}
+use Rattle.desk_base.specs.meaning.Trees.{tree_of, patterns}
+use Rattle.desk_base.specs.meaning.Picks.{Choice, choices_of, pattern_of, first_broken_same}
+use Rattle.desk_base.specs.search.Listing.{IsOnGrid, serves, other_asks, ask_for, asks_for, IsWithinOptions, IsLive}
 use Rattle.desk_search.specs.Tests.{is_on_grid, is_within_options, are_same_bits, begins, begins_pattern, is_live}
-use Rattle.desk_base.proofs.Members.{in-map, contains_from_in, in_from_contains}
-use Rattle.desk_base.proofs.Tests.{and_left, and_right, and_both, list_all_at, list_any_at, list_any_from}
+use Rattle.desk_base.proofs.lists.Members.{in-map, contains_from_in, in_from_contains}
+use Rattle.desk_base.proofs.lists.Tests.{and_left, and_right, and_both, list_all_at, list_any_at, list_any_from}
 use Rattle.desk_search.proofs.Fitting.{have_room_decides, AreInHorizon}
 
 -- ---- starts and options

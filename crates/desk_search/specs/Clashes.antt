@@ -2,12 +2,12 @@
 use Rattle.std.specs.Prelude.{ℕ, ◌≡◌, ◌<◌, Bool, false, nat_lt, ◌&&◌, min, List, fold, Option, Some, None, if◌then◌else◌}
 use Rattle.std.specs.List.{list_any}
 use Rattle.std.specs.Option.{option_map_or}
-use Rattle.desk_base.specs.declared.tables.Tables.{Tables}
-use Rattle.desk_base.specs.declared.resource_rows.ResourceRow.{ResourceRow}
-use Rattle.desk_base.specs.declared.searches.Ask.{Ask}
-use Rattle.desk_base.specs.Limits.{end_of_minutes}
-use Rattle.desk_base.specs.Time.{covers, IsMinute}
-use Rattle.desk_base.specs.Load.{IsWithinRoom}
+use Rattle.desk_base.specs.declared.rows.tables.Tables.{Tables}
+use Rattle.desk_base.specs.declared.rows.resources.ResourceRow.{ResourceRow}
+use Rattle.desk_base.specs.declared.search.results.Ask.{Ask}
+use Rattle.desk_base.specs.rules.Limits.{end_of_minutes}
+use Rattle.desk_base.specs.meaning.Time.{covers, IsMinute}
+use Rattle.desk_base.specs.meaning.Load.{IsWithinRoom}
 use Rattle.desk_search.specs.Rooms.{has_room_at}
 
 -- the lesser of a resource and the least so far, if there is one

@@ -1,12 +1,12 @@
 -- The next minute at which a weight can rise, or a room can change.
 use Rattle.std.specs.Prelude.{ℕ, ◌+◌, ◌-◌, ◌%◌, ◌==◌, List, fold, if◌then◌else◌}
 use Rattle.std.specs.Option.{option_map_or}
-use Rattle.desk_base.specs.declared.tables.Tables.{Tables}
-use Rattle.desk_base.specs.declared.resource_rows.ResourceRow.{ResourceRow}
-use Rattle.desk_base.specs.declared.searches.Ask.{Ask}
-use Rattle.desk_base.specs.Limits.{minutes_a_day}
-use Rattle.desk_base.specs.Time.{clock_minute}
-use Rattle.desk_base.specs.Capacity.{shifts_of}
+use Rattle.desk_base.specs.declared.rows.tables.Tables.{Tables}
+use Rattle.desk_base.specs.declared.rows.resources.ResourceRow.{ResourceRow}
+use Rattle.desk_base.specs.declared.search.results.Ask.{Ask}
+use Rattle.desk_base.specs.rules.Limits.{minutes_a_day}
+use Rattle.desk_base.specs.meaning.Time.{clock_minute}
+use Rattle.desk_base.specs.meaning.Capacity.{shifts_of}
 use Rattle.desk_search.specs.Clashes.{nearer, next_start}
 
 -- n, or the nearest after m of two bounds where it lies before n

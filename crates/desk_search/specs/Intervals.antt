@@ -1,13 +1,13 @@
 -- Which positions are due, one by one.
 use Rattle.std.specs.Prelude.{ℕ, ◌-◌, ◌==◌, Bool, nat_lt, List, length, Option, None}
 use Rattle.std.specs.List.{last_or}
-use Rattle.desk_base.specs.declared.searches.Found.{Found}
-use Rattle.desk_base.specs.declared.searches.Position.{Position}
-use Rattle.desk_base.specs.Listing.{rows_before}
-use Rattle.desk_base.specs.declared.searches.Page.{Page}
-use Rattle.desk_base.specs.Limits.{passed_limit}
-use Rattle.desk_base.specs.Page.{ResumePoint, shown_before, passed_of, shown_after}
-use Rattle.desk_base.specs.Positions.{found_of, rows_among}
+use Rattle.desk_base.specs.declared.search.results.Found.{Found}
+use Rattle.desk_base.specs.declared.search.results.Position.{Position}
+use Rattle.desk_base.specs.search.Listing.{rows_before}
+use Rattle.desk_base.specs.declared.search.results.Page.{Page}
+use Rattle.desk_base.specs.rules.Limits.{passed_limit}
+use Rattle.desk_base.specs.search.Page.{ResumePoint, shown_before, passed_of, shown_after}
+use Rattle.desk_base.specs.search.Positions.{found_of, rows_among}
 
 -- fewer of these rows come before the position, at its start, than are still to be shown
 abbrev pub is_due : List Found → ℕ → Option Position → ℕ → Position → Bool

@@ -1,8 +1,8 @@
 -- The parts of a tree, each with its patterns written out.
 use Rattle.std.specs.Prelude.{ℕ, ◌+◌, Bool, true, false, nat_lt, List, [], ◌∷◌, ◌++◌, map, replicate, if◌then◌else◌}
-use Rattle.desk_base.specs.declared.group_rows.NodeKind.{NodeKind}
-use Rattle.desk_base.specs.declared.group_rows.NodeKind.TheVariants.{All, Any, Leaf}
-use Rattle.desk_base.specs.Trees.{PlacedTree, patterns, leaf_count, concatenations}
+use Rattle.desk_base.specs.declared.rows.groups.NodeKind.{NodeKind}
+use Rattle.desk_base.specs.declared.rows.groups.NodeKind.TheVariants.{All, Any, Leaf}
+use Rattle.desk_base.specs.meaning.Trees.{PlacedTree, patterns, leaf_count, concatenations}
 use Rattle.desk_search.specs.declared.search.trees.Part.{Part}
 
 -- what a tree gives as a part

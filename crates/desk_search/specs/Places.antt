@@ -1,12 +1,12 @@
 -- The places that a search looks at, in order: each start with each list of picks.
 use Rattle.std.specs.Prelude.{ℕ, zero, suc, ◌-◌, List, [], ◌∷◌, ◌++◌, map, filter, flat_map, Option, Some, None}
 use Rattle.std.specs.List.{range_with_len}
-use Rattle.desk_base.specs.declared.tables.Tables.{Tables}
-use Rattle.desk_base.specs.declared.group_rows.GroupRow.{GroupRow}
-use Rattle.desk_base.specs.declared.searches.Position.{Position}
-use Rattle.desk_base.specs.declared.searches.Options.{Options}
-use Rattle.desk_base.specs.Trees.{tree_of, leaf_count}
-use Rattle.desk_base.specs.Positions.{position_at}
+use Rattle.desk_base.specs.declared.rows.tables.Tables.{Tables}
+use Rattle.desk_base.specs.declared.rows.groups.GroupRow.{GroupRow}
+use Rattle.desk_base.specs.declared.search.results.Position.{Position}
+use Rattle.desk_base.specs.declared.search.results.Options.{Options}
+use Rattle.desk_base.specs.meaning.Trees.{tree_of, leaf_count}
+use Rattle.desk_base.specs.search.Positions.{position_at}
 use Rattle.desk_search.specs.Tests.{is_live}
 
 -- what a leaf may have as its pick

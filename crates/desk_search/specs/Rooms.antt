@@ -2,11 +2,11 @@
 use Rattle.std.specs.Prelude.{ℕ, Bool, true, nat_le, List, ◌++◌, Option}
 use Rattle.std.specs.List.{list_all}
 use Rattle.std.specs.Option.{option_map_or}
-use Rattle.desk_base.specs.declared.tables.Tables.{Tables}
-use Rattle.desk_base.specs.declared.resource_rows.ResourceRow.{ResourceRow}
-use Rattle.desk_base.specs.declared.searches.Ask.{Ask}
-use Rattle.desk_base.specs.Time.{minutes_of}
-use Rattle.desk_base.specs.Load.{weight, room}
+use Rattle.desk_base.specs.declared.rows.tables.Tables.{Tables}
+use Rattle.desk_base.specs.declared.rows.resources.ResourceRow.{ResourceRow}
+use Rattle.desk_base.specs.declared.search.results.Ask.{Ask}
+use Rattle.desk_base.specs.meaning.Time.{minutes_of}
+use Rattle.desk_base.specs.meaning.Load.{weight, room}
 
 -- a weight is within a room, which may be without bound
 abbrev pub is_within_room : ℕ → Option ℕ → Bool

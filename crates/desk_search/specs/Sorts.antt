@@ -1,6 +1,6 @@
 -- How a resource takes load, as the program names it.
 use Rattle.std.specs.Prelude.{◌≡◌}
-use Rattle.desk_base.specs.Load.{LoadSort, plain, crew, pool, unknown}
+use Rattle.desk_base.specs.meaning.Load.{LoadSort, plain, crew, pool, unknown}
 use Rattle.desk_search.specs.declared.search.members.Sort.{Sort}
 use Rattle.desk_search.specs.declared.search.members.Sort.TheVariants.{Plain, Crew, Pool, Unknown}
 

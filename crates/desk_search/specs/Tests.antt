@@ -2,13 +2,13 @@
 use Rattle.std.specs.Prelude.{ℕ, ◌-◌, ◌%◌, Bool, true, false, not, nat_le, nat_lt, ◌==◌, ◌&&◌, List, [], ◌∷◌, is_none, length, take}
 use Rattle.std.specs.List.{list_all, list_any}
 use Rattle.std.specs.Option.{option_map_or}
-use Rattle.desk_base.specs.declared.tables.Tables.{Tables}
-use Rattle.desk_base.specs.declared.group_rows.GroupRow.{GroupRow}
-use Rattle.desk_base.specs.declared.searches.Position.{Position}
-use Rattle.desk_base.specs.declared.searches.Options.{Options}
-use Rattle.desk_base.specs.Trees.{tree_of, patterns}
-use Rattle.desk_base.specs.Picks.{choices_of, pattern_of, first_broken_same}
-use Rattle.desk_base.specs.Listing.{serves, other_asks, asks_for}
+use Rattle.desk_base.specs.declared.rows.tables.Tables.{Tables}
+use Rattle.desk_base.specs.declared.rows.groups.GroupRow.{GroupRow}
+use Rattle.desk_base.specs.declared.search.results.Position.{Position}
+use Rattle.desk_base.specs.declared.search.results.Options.{Options}
+use Rattle.desk_base.specs.meaning.Trees.{tree_of, patterns}
+use Rattle.desk_base.specs.meaning.Picks.{choices_of, pattern_of, first_broken_same}
+use Rattle.desk_base.specs.search.Listing.{serves, other_asks, asks_for}
 use Rattle.desk_search.specs.Rooms.{have_room}
 
 -- the start is on the group's grid

@@ -5,10 +5,11 @@
 ghost use Rattle.std.specs.Prelude.{◌≡◌, ◌≤◌, ◌<◌, ◌==◌, ◌&&◌, ◌^◌, find, option_and_then, nat_le, if◌then◌else◌, Some, None};
 ghost use Rattle.std.specs.List.{list_any};
 ghost use Rattle.std.specs.Option.{option_copied, option_map_or};
-ghost use Rattle.desk_base.specs.Capacity.{capacity, calendar_capacity, calendar_of, resource_of, shifts_of};
-ghost use Rattle.desk_base.specs.Time.{covers, local_time, last_begun, offset_at, clock_minute, weekday_of, LocalTime};
+ghost use Rattle.desk_base.specs.meaning.Capacity.{capacity, calendar_capacity, calendar_of, resource_of, shifts_of};
+ghost use Rattle.desk_base.specs.meaning.Time.{covers, local_time, last_begun, offset_at, clock_minute, weekday_of, LocalTime};
 
 use crate::lookup::{is_within, resource_of};
+use desk_base::limits::MINUTES_A_DAY;
 use desk_base::{CalendarId, CalendarRow, DayRow, ResourceId, Tables, WorkRow, ZoneId, ZoneRow};
 
 fn calendar_of(tables: &Tables, id: ResourceId) -> Option<CalendarId>
@@ -170,7 +171,7 @@ fn work_capacity(tables: &Tables, calendar: CalendarId, weekday: u64, minute: u6
     }
 }
 
-#[tactic(auto, unfolding(desk_base::specs::Capacity::calendar_capacity))]
+#[tactic(auto, unfolding(desk_base::specs::meaning::Capacity::calendar_capacity))]
 fn calendar_capacity(tables: &Tables, calendar: CalendarId, day: u64, minute: u64) -> u64
     requires { day < 2 ^ 60 }
     ensures small { result < 2 ^ 16 }
@@ -188,7 +189,7 @@ fn calendar_capacity(tables: &Tables, calendar: CalendarId, day: u64, minute: u6
 
 /// How much work, in effort, the resource can do at a minute by its calendar and its times off. It is 0 where it
 /// has no calendar.
-#[tactic(auto, unfolding(desk_base::specs::Capacity::capacity))]
+#[tactic(auto, unfolding(desk_base::specs::meaning::Capacity::capacity))]
 pub fn capacity(tables: &Tables, id: ResourceId, minute: u32) -> u64
     ensures small { result < 2 ^ 16 }
     ensures value { result ≡ capacity tables.now id minute }
@@ -199,7 +200,8 @@ pub fn capacity(tables: &Tables, id: ResourceId, minute: u32) -> u64
     match calendar_of(tables, id) {
         Some(calendar) => {
             let local = calendar_minute(tables, calendar, minute);
-            calendar_capacity(tables, calendar, local / 1440, local % 1440)
+            let day = u64::from(MINUTES_A_DAY);
+            calendar_capacity(tables, calendar, local / day, local % day)
         }
         None => 0,
     }

@@ -1,11 +1,11 @@
 //! Where bookings clash: the least minute, and there the least resource, at which they are above the room.
 ghost use Rattle.std.specs.Prelude.{◌≡◌, ◌++◌, ◌+◌, ◌*◌, ◌≤◌, ◌<◌, ◌^◌, map, length, false, None, Some, IfOk, MatchOption, ℕ};
-ghost use Rattle.desk_base.specs.Limits.{end_of_minutes, first_minute};
-ghost use Rattle.desk_base.specs.TableLimits.{limit_of};
-ghost use Rattle.desk_base.specs.declared.tables.Table.TheVariants.{Member};
-ghost use Rattle.desk_base.specs.Load.{ask_of, Fits, room, weight, counts, shown_at, IsWithinRoom};
-ghost use Rattle.desk_base.specs.Efforts.{AreLight, AreLightBookings};
-ghost use Rattle.desk_base.specs.Steps.{IsConflict, shown_of};
+ghost use Rattle.desk_base.specs.rules.Limits.{end_of_minutes, first_minute};
+ghost use Rattle.desk_base.specs.rules.TableLimits.{limit_of};
+ghost use Rattle.desk_base.specs.declared.rows.tables.Table.TheVariants.{Member};
+ghost use Rattle.desk_base.specs.meaning.Load.{ask_of, Fits, room, weight, counts, shown_at, IsWithinRoom};
+ghost use Rattle.desk_base.specs.meaning.Efforts.{AreLight, AreLightBookings};
+ghost use Rattle.desk_base.specs.asked.Steps.{IsConflict, shown_of};
 ghost use Rattle.desk_search.specs.Rooms.{has_room_at};
 ghost use Rattle.desk_search.specs.Clashes.{lesser, next_over, least_over, is_busy, nearer, next_start, IsFirstOver};
 
@@ -13,14 +13,9 @@ use crate::events::{next_event, next_start};
 use crate::extracts::bearing;
 use crate::search::asks::ask_of;
 use crate::search::load::{covers, has_room_at, load, room, weight};
+use desk_base::limits::{END_OF_MINUTES, FIRST_MINUTE};
 use desk_base::{Ask, BookingRow, Clash, Minute, NoMemory, ResourceId, Shown, Tables};
 use std::alloc::{AllocError, Global};
-
-/// 2000-01-01T00:00Z, the first minute of the horizon.
-const FIRST: u32 = 15_778_080;
-
-/// 2100-01-01T00:00Z, where the horizon ends.
-const END: u32 = 68_374_080;
 
 /// A resource at a minute.
 #[derive(Debug, Drop)]
@@ -85,8 +80,8 @@ fn first_over(alloc: Global, tables: &Tables, asks: &[Ask]) -> Result<Option<Pla
     requires { length asks.now ≤ 2 ^ 23 }
     ensures { IfOk result (λ p. MatchOption p (Fits tables.now asks.now) (λ p. IsFirstOver tables.now asks.now p.resource p.minute)) }
 {
-    let mut minute = FIRST;
-    while minute < END {
+    let mut minute = FIRST_MINUTE;
+    while minute < END_OF_MINUTES {
         match least_over(alloc, tables, asks, minute)? {
             Some(resource) => {
                 let minute = Minute::of(minute).unwrap();

@@ -1,18 +1,13 @@
 //! The minutes at which a weight can rise or a room can change: between two of them nothing does.
 ghost use Rattle.std.specs.Prelude.{◌≡◌, ◌<◌, ◌≤◌, ◌==◌, ◌^◌, fold, if◌then◌else◌};
 ghost use Rattle.std.specs.Option.{option_map_or};
-ghost use Rattle.desk_base.specs.Limits.{end_of_minutes, minutes_a_day};
+ghost use Rattle.desk_base.specs.rules.Limits.{end_of_minutes, minutes_a_day};
 ghost use Rattle.desk_search.specs.Clashes.{nearer, next_start};
 ghost use Rattle.desk_search.specs.Events.{nearer_bound, minutes_until, nearer_time, after_works, after_breaks, after_days, after_times, after_clock, after_resources, after_zones, after_members, after_offs, next_event};
 
 use crate::capacity::calendar_minute;
+use desk_base::limits::{END_OF_MINUTES, MINUTES_A_DAY};
 use desk_base::{Ask, CalendarId, ResourceRow, Tables};
-
-/// 2100-01-01T00:00Z, where the horizon ends.
-const END: u32 = 68_374_080;
-
-/// Minutes of a day.
-const DAY: u32 = 1440;
 
 fn nearer(minute: u32, near: u32, other: u32) -> u32
     ensures { result ≡ nearer minute near other }
@@ -28,7 +23,7 @@ fn nearer(minute: u32, near: u32, other: u32) -> u32
 pub fn next_start(asks: &[Ask], minute: u32) -> u32
     ensures { result ≡ next_start asks.now minute }
 {
-    let mut near = END;
+    let mut near = END_OF_MINUTES;
     for ask in asks {
         near = nearer(minute, near, ask.window.from.get());
     }
@@ -47,7 +42,7 @@ fn minutes_until(shown: u32, time: u16) -> u32
     ensures value { result ≡ minutes_until shown time }
     ensures small { result ≤ minutes_a_day }
 {
-    (u32::from(time) + (DAY - 1) - shown) % DAY + 1
+    (u32::from(time) + (MINUTES_A_DAY - 1) - shown) % MINUTES_A_DAY + 1
 }
 
 fn nearer_time(minute: u32, shown: u32, near: u32, from: u16, to: u16) -> u32
@@ -111,7 +106,7 @@ fn after_clock(tables: &Tables, calendar: CalendarId, minute: u32, near: u32) ->
     requires { minute < end_of_minutes }
     ensures { result ≡ after_clock tables.now calendar minute near }
 {
-    let shown = (calendar_minute(tables, calendar, minute) % 1440) as u32;
+    let shown = (calendar_minute(tables, calendar, minute) % u64::from(MINUTES_A_DAY)) as u32;
     let next = nearer(minute, near, minute + minutes_until(shown, 0));
     let next = after_works(tables, calendar, minute, shown, next);
     let next = after_breaks(tables, calendar, minute, shown, next);

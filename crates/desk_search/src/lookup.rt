@@ -2,8 +2,8 @@
 ghost use Rattle.std.specs.Prelude.{◌≡◌, ◌==◌, find};
 ghost use Rattle.std.specs.List.{list_any};
 ghost use Rattle.std.specs.Option.{option_copied};
-ghost use Rattle.desk_base.specs.Capacity.{resource_of};
-ghost use Rattle.desk_base.specs.Time.{covers};
+ghost use Rattle.desk_base.specs.meaning.Capacity.{resource_of};
+ghost use Rattle.desk_base.specs.meaning.Time.{covers};
 
 use desk_base::{Id, ResourceId, ResourceRow, Tables};
 

@@ -4,18 +4,18 @@
 //! with the next.
 ghost use Rattle.std.specs.Prelude.{◌≡◌, [], ◌++◌, ◌+◌, ◌<◌, ◌≤◌, ◌^◌, nat_le, length, true, None, option_map, Contains, IfOk, MatchOption};
 ghost use Rattle.std.specs.List.{list_all};
-ghost use Rattle.desk_base.specs.Sound.{AreWellFormed};
-ghost use Rattle.desk_base.specs.Limits.{end_of_minutes};
-ghost use Rattle.desk_base.specs.TableLimits.{limit_of};
-ghost use Rattle.desk_base.specs.declared.tables.Table.TheVariants.{Member as MemberTable};
-ghost use Rattle.desk_base.specs.Trees.{tree_of, patterns, leaf_count};
-ghost use Rattle.desk_base.specs.Picks.{choices_of, pattern_of, first_broken_same};
-ghost use Rattle.desk_base.specs.Time.{leaf_time};
-ghost use Rattle.desk_base.specs.Load.{Fits};
-ghost use Rattle.desk_base.specs.Efforts.{AreLight, AreLightBookings};
-ghost use Rattle.desk_base.specs.Listing.{IsOnGrid, IsFeasible, BeginsPattern, other_asks, asks_for};
-ghost use Rattle.desk_base.specs.Verdicts.{IsBadShape, HasShape, IsServed, first_unserved};
-ghost use Rattle.desk_base.specs.Steps.{others_of, IsConflict, IsPlaceRefusal};
+ghost use Rattle.desk_base.specs.rules.Sound.{AreWellFormed};
+ghost use Rattle.desk_base.specs.rules.Limits.{end_of_minutes};
+ghost use Rattle.desk_base.specs.rules.TableLimits.{limit_of};
+ghost use Rattle.desk_base.specs.declared.rows.tables.Table.TheVariants.{Member as MemberTable};
+ghost use Rattle.desk_base.specs.meaning.Trees.{tree_of, patterns, leaf_count};
+ghost use Rattle.desk_base.specs.meaning.Picks.{choices_of, pattern_of, first_broken_same};
+ghost use Rattle.desk_base.specs.meaning.Time.{leaf_time};
+ghost use Rattle.desk_base.specs.meaning.Load.{Fits};
+ghost use Rattle.desk_base.specs.meaning.Efforts.{AreLight, AreLightBookings};
+ghost use Rattle.desk_base.specs.search.Listing.{IsOnGrid, IsFeasible, BeginsPattern, other_asks, asks_for};
+ghost use Rattle.desk_base.specs.search.Verdicts.{IsBadShape, HasShape, IsServed, first_unserved};
+ghost use Rattle.desk_base.specs.asked.Steps.{others_of, IsConflict, IsPlaceRefusal};
 ghost use Rattle.desk_search.specs.PlaceRefusals.{not_eligible};
 
 use crate::clashes::clash;

@@ -6,7 +6,7 @@
 #![tactic(auto)]
 
 ghost use Rattle.std.specs.Prelude.{◌≡◌, true};
-ghost use Rattle.desk_base.specs.Efforts.{AreLight, AreLightBookings};
+ghost use Rattle.desk_base.specs.meaning.Efforts.{AreLight, AreLightBookings};
 
 use desk_base::{
     Ask, BookingId, BookingRow, CalendarId, CalendarRow, Clash, GroupId, Kind, Minute, Name,

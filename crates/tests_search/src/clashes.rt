@@ -1,7 +1,7 @@
 //! Worked clashes over the trial tables and small changes of them: 1 and 2 work on Monday, 2025-01-06, from 08:00 to 12:00, and 3
 //! from 10:00.
 ghost use Rattle.std.specs.Prelude.{◌≡◌, true};
-ghost use Rattle.desk_base.specs.Efforts.{AreLight, AreLightBookings};
+ghost use Rattle.desk_base.specs.meaning.Efforts.{AreLight, AreLightBookings};
 
 use desk_base::{
     Ask, BookingId, BookingRow, Clash, GroupId, Kind, MemberRow, Minute, Name, NoMemory, OffRow,

@@ -1,9 +1,9 @@
 //! The listing of the trial group and its pages, with all rows of a start and with the first ones alone. Minute 28,935,840 is
 //! Monday 2025-01-06T08:00Z; Ann (1) and Bob (2) work from 08:00, and Cyd (3) from 10:00.
 ghost use Rattle.std.specs.Prelude.{◌≡◌, true, None, map, IfOk};
-ghost use Rattle.desk_base.specs.Load.{Fits, ask_of};
-ghost use Rattle.desk_base.specs.Page.{IsAskable};
-ghost use Rattle.desk_base.specs.Sound.{AreWellFormed};
+ghost use Rattle.desk_base.specs.meaning.Load.{Fits, ask_of};
+ghost use Rattle.desk_base.specs.search.Page.{IsAskable};
+ghost use Rattle.desk_base.specs.rules.Sound.{AreWellFormed};
 
 use desk_base::laws::{sound_tables_are_well_formed, standing_bookings_fit, trial_is_sound};
 use desk_base::{

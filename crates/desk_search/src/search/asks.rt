@@ -1,11 +1,11 @@
 //! What the standing bookings and the chosen leaves ask for.
 ghost use Rattle.std.specs.Prelude.{◌≡◌, ◌∷◌, ◌++◌, ◌≤◌, ◌<◌, ◌+◌, ◌^◌, ◌==◌, nat_le, length, map, filter, true, IfOk, OnOk};
 ghost use Rattle.std.specs.List.{list_all};
-ghost use Rattle.desk_base.specs.Limits.{end_of_minutes};
-ghost use Rattle.desk_base.specs.Time.{leaf_time};
-ghost use Rattle.desk_base.specs.Load.{ask_of};
-ghost use Rattle.desk_base.specs.Picks.{choices_of};
-ghost use Rattle.desk_base.specs.Listing.{other_asks, ask_for};
+ghost use Rattle.desk_base.specs.rules.Limits.{end_of_minutes};
+ghost use Rattle.desk_base.specs.meaning.Time.{leaf_time};
+ghost use Rattle.desk_base.specs.meaning.Load.{ask_of};
+ghost use Rattle.desk_base.specs.meaning.Picks.{choices_of};
+ghost use Rattle.desk_base.specs.search.Listing.{other_asks, ask_for};
 
 use desk_base::{Ask, BookingRow, GroupRow, Leaf, Minute, ResourceId, Tables, Window};
 use std::alloc::{AllocError, Global};

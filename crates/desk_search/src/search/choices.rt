@@ -1,6 +1,6 @@
 //! The resources that are chosen.
 ghost use Rattle.std.specs.Prelude.{◌≡◌, ◌++◌, ◌+◌, ◌<◌, ◌^◌, length, map, IfOk, OnOk};
-ghost use Rattle.desk_base.specs.Picks.{Choice, choices_of};
+ghost use Rattle.desk_base.specs.meaning.Picks.{Choice, choices_of};
 
 use desk_base::{Leaf, ResourceId};
 use std::alloc::{AllocError, Global};

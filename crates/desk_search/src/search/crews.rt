@@ -1,22 +1,17 @@
 //! Whether some crew has all who are chosen.
 ghost use Rattle.std.specs.Prelude.{◌≡◌, ◌≤◌, ◌<◌, ◌^◌, ◌+◌, ◌==◌, ◌&&◌, min, max, length, map, IfOk};
 ghost use Rattle.std.specs.List.{list_any, list_all};
-ghost use Rattle.desk_base.specs.declared.resource_rows.ResourceRow.{ResourceRow};
-ghost use Rattle.desk_base.specs.Picks.{Choice, choices_of, is_member_throughout, is_in_crew, have_one_crew};
-ghost use Rattle.desk_base.specs.Time.{leaf_time};
-ghost use Rattle.desk_base.specs.Load.{sort_of_kind, is_crew, members};
+ghost use Rattle.desk_base.specs.declared.rows.resources.ResourceRow.{ResourceRow};
+ghost use Rattle.desk_base.specs.meaning.Picks.{Choice, choices_of, is_member_throughout, is_in_crew, have_one_crew};
+ghost use Rattle.desk_base.specs.meaning.Time.{leaf_time};
+ghost use Rattle.desk_base.specs.meaning.Load.{sort_of_kind, is_crew, members};
 
 use crate::search::choices::chosen;
 use crate::search::eligible::begin_of;
 use crate::search::members::{is_crew_kind, is_member_at};
+use desk_base::limits::{END_OF_MINUTES, FIRST_MINUTE};
 use desk_base::{Leaf, ResourceId, Tables};
 use std::alloc::{AllocError, Global};
-
-/// 2000-01-01T00:00Z, the first minute of the horizon.
-const FIRST: u64 = 15_778_080;
-
-/// 2100-01-01T00:00Z, where the horizon ends.
-const END: u64 = 68_374_080;
 
 fn later(a: u64, b: u64) -> u64
     ensures { result ≡ max a b }
@@ -31,7 +26,7 @@ fn earlier(a: u64, b: u64) -> u64
 }
 
 /// Whether the resource is a member of the crew at every minute of the leaf that is in the horizon.
-#[tactic(auto, unfolding(desk_base::specs::Picks::is_member_throughout))]
+#[tactic(auto, unfolding(desk_base::specs::meaning::Picks::is_member_throughout))]
 fn is_member_throughout(
     alloc: Global,
     tables: &Tables,
@@ -43,8 +38,8 @@ fn is_member_throughout(
     ensures { IfOk result (λ b. b ≡ is_member_throughout tables.now group id (leaf_time leaf.now start)) }
 {
     let begin = begin_of(leaf, start);
-    let from = later(FIRST, begin);
-    let to = earlier(begin + u64::from(leaf.duration), END);
+    let from = later(u64::from(FIRST_MINUTE), begin);
+    let to = earlier(begin + u64::from(leaf.duration), u64::from(END_OF_MINUTES));
     for minute in from..to {
         let is_there = is_member_at(alloc, tables, group, id, minute)?;
         if !is_there {

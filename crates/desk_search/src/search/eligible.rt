@@ -2,36 +2,21 @@
 ghost use Rattle.std.specs.Prelude.{◌≡◌, true, ◌==◌, ◌&&◌, ◌||◌, ◌≤◌, ◌<◌, ◌^◌, ◌+◌, nat_le, length, Some, None, MatchOption, if◌then◌else◌};
 ghost use Rattle.std.specs.Option.{option_map_or};
 ghost use Rattle.std.specs.List.{list_any, list_all};
-ghost use Rattle.desk_base.specs.Eligible.{kind_number, is_met, is_of_kind, has_role, has_rating, has_territory, eligibility, first_broken_rule, first_broken_at, is_in_windows};
-ghost use Rattle.desk_base.specs.Rules.{first_broken};
-ghost use Rattle.desk_base.specs.Time.{is_inside, leaf_time};
-ghost use Rattle.desk_base.specs.declared.rules.LeafRule.TheVariants.{Window as Outside};
+ghost use Rattle.desk_base.specs.meaning.Eligible.{kind_number, is_met, is_of_kind, has_role, has_rating, has_territory, eligibility, first_broken_rule, first_broken_at, is_in_windows};
+ghost use Rattle.desk_base.specs.rules.Rules.{first_broken};
+ghost use Rattle.desk_base.specs.meaning.Time.{is_inside, leaf_time};
+ghost use Rattle.desk_base.specs.declared.asked.rules.LeafRule.TheVariants.{Window as Outside};
 
 use crate::lookup::{is_listed, resource_of};
 use desk_base::{
     GroupRow, Kind, Leaf, LeafRule, ResourceId, ResourceRow, RoleId, Tables, TerritoryId, UnitId,
 };
 
-fn kind_number(kind: Kind) -> u8
-    ensures { result ≡ kind_number kind }
-{
-    match kind {
-        Kind::Generic => 0,
-        Kind::Contact => 1,
-        Kind::User => 2,
-        Kind::Equipment => 3,
-        Kind::Account => 4,
-        Kind::Facility => 5,
-        Kind::Crew => 6,
-        Kind::Pool => 7,
-    }
-}
-
 fn is_one_of(kinds: &[Kind], kind: Kind) -> bool
     ensures { result ≡ list_any (λ k. kind_number k == kind_number kind) kinds.now }
 {
-    let wanted = kind_number(kind);
-    kinds.iter().any(|k| kind_number(*k) == wanted)
+    let wanted = kind.number();
+    kinds.iter().any(|k| k.number() == wanted)
 }
 
 fn is_of_kind(leaf: &Leaf, row: &ResourceRow) -> bool
@@ -147,7 +132,7 @@ fn first_broken_by(tables: &Tables, leaf: &Leaf, row: &ResourceRow) -> Option<Le
 
 /// The first rule of the leaf, but for its windows, that the resource breaks; `None` where it breaks none. What is no resource
 /// is of no kind.
-#[tactic(auto, unfolding(desk_base::specs::Eligible::first_broken_rule))]
+#[tactic(auto, unfolding(desk_base::specs::meaning::Eligible::first_broken_rule))]
 pub fn first_broken_rule(tables: &Tables, leaf: &Leaf, id: ResourceId) -> Option<LeafRule>
     ensures { result ≡ first_broken_rule tables.now leaf.now id }
 {

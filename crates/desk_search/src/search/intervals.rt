@@ -1,20 +1,18 @@
 //! Results per interval: which rows of each start a search shows, and how many it has shown.
 ghost use Rattle.std.specs.Prelude.{◌≡◌, ◌≤◌, ◌+◌, ◌==◌, ◌&&◌, ◌++◌, ◌∷◌, [], nat_lt, min, length, filter, Some, None, IfOk, OnOk, option_copied};
 ghost use Rattle.std.specs.Ordering.{is_lt};
-ghost use Rattle.desk_base.specs.Limits.{page_limit};
-ghost use Rattle.desk_base.specs.Order.{found_cmp};
-ghost use Rattle.desk_base.specs.Listing.{rows_before, shown_rows};
-ghost use Rattle.desk_base.specs.Page.{shown_before, due_of, rows_at, shown_after};
-ghost use Rattle.desk_base.specs.Positions.{rows_among};
+ghost use Rattle.desk_base.specs.rules.Limits.{page_limit};
+ghost use Rattle.desk_base.specs.search.Order.{found_cmp};
+ghost use Rattle.desk_base.specs.search.Listing.{rows_before, shown_rows};
+ghost use Rattle.desk_base.specs.search.Page.{shown_before, due_of, rows_at, shown_after};
+ghost use Rattle.desk_base.specs.search.Positions.{rows_among};
 ghost use Rattle.desk_search.specs.Intervals.{is_due};
 
 use crate::search::listing::{found_of, rows_among};
+use desk_base::limits::PAGE_LIMIT;
 use desk_base::{Duplicate, Found, Founds, Items, NoMemory, Position};
 use std::alloc::Global;
 use std::cmp::Ordering;
-
-/// How many rows of a start a page counts at most.
-const MOST_ROWS: usize = 500;
 
 /// Whether both have one start, and the first comes before the second.
 fn is_ahead(a: &Found, b: &Found) -> bool
@@ -165,7 +163,11 @@ fn rows_at(rows: &[Found], start: u32) -> usize
 fn capped(count: usize) -> u16
     ensures { result ≡ min count page_limit }
 {
-    if count < MOST_ROWS { count as u16 } else { 500 }
+    if count < usize::from(PAGE_LIMIT) {
+        count as u16
+    } else {
+        PAGE_LIMIT
+    }
 }
 
 /// How many rows of the start of the last position that was passed were shown with these.

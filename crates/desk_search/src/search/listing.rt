@@ -1,9 +1,9 @@
 //! The listing of a group: its live positions that have a pick for each leaf.
 ghost use Rattle.std.specs.Prelude.{◌≡◌, Contains, ◌∷◌, [], ◌++◌, map, IfOk, OnOk};
-ghost use Rattle.desk_base.specs.Sound.{AreWellFormed};
-ghost use Rattle.desk_base.specs.Load.{Fits, ask_of};
-ghost use Rattle.desk_base.specs.Listing.{IsListing};
-ghost use Rattle.desk_base.specs.Positions.{found_of, rows_among};
+ghost use Rattle.desk_base.specs.rules.Sound.{AreWellFormed};
+ghost use Rattle.desk_base.specs.meaning.Load.{Fits, ask_of};
+ghost use Rattle.desk_base.specs.search.Listing.{IsListing};
+ghost use Rattle.desk_base.specs.search.Positions.{found_of, rows_among};
 
 use crate::search::intervals::shown_rows;
 use crate::search::live::live_positions;

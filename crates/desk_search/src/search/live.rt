@@ -1,9 +1,9 @@
 //! The live positions of a group, by a test of each position of which every beginning is live.
 ghost use Rattle.std.specs.Prelude.{◌≡◌, Contains, ◌∷◌, [], ◌++◌, ◌≤◌, ◌+◌, length, map, IfOk, OnOk, Some, None};
-ghost use Rattle.desk_base.specs.Sound.{AreWellFormed};
-ghost use Rattle.desk_base.specs.Load.{Fits, ask_of};
-ghost use Rattle.desk_base.specs.Listing.{IsLiveList};
-ghost use Rattle.desk_base.specs.Positions.{position_at};
+ghost use Rattle.desk_base.specs.rules.Sound.{AreWellFormed};
+ghost use Rattle.desk_base.specs.meaning.Load.{Fits, ask_of};
+ghost use Rattle.desk_base.specs.search.Listing.{IsLiveList};
+ghost use Rattle.desk_base.specs.search.Positions.{position_at};
 ghost use Rattle.desk_search.specs.Tests.{is_live};
 ghost use Rattle.desk_search.specs.Places.{choices, live_from, live_below, live_among};
 

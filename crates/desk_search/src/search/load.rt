@@ -1,9 +1,9 @@
 //! What bookings weigh, and the room that a resource has.
 ghost use Rattle.std.specs.Prelude.{◌≡◌, ◌≤◌, ◌<◌, ◌==◌, ◌&&◌, ◌||◌, sum_by, ◌^◌, ◌*◌, length, IfOk, IfSome, option_map, ◌+◌};
 ghost use Rattle.std.specs.List.{list_any};
-ghost use Rattle.desk_base.specs.Capacity.{capacity};
-ghost use Rattle.desk_base.specs.Load.{sort_of, is_crew, members, effort_at, own_load, plain_load, load, load_by, weight, room, room_by, room_of_crew, loads};
-ghost use Rattle.desk_base.specs.Time.{covers};
+ghost use Rattle.desk_base.specs.meaning.Capacity.{capacity};
+ghost use Rattle.desk_base.specs.meaning.Load.{sort_of, is_crew, members, effort_at, own_load, plain_load, load, load_by, weight, room, room_by, room_of_crew, loads};
+ghost use Rattle.desk_base.specs.meaning.Time.{covers};
 ghost use Rattle.desk_search.specs.Rooms.{is_within_room, has_room_at};
 
 use crate::capacity::capacity;
@@ -35,7 +35,7 @@ fn effort_at(ask: &Ask, minute: u32) -> u64
 }
 
 /// What a booking takes of the resource where it stands on it.
-#[tactic(auto, unfolding(desk_base::specs::Load::own_load))]
+#[tactic(auto, unfolding(desk_base::specs::meaning::Load::own_load))]
 fn own_load(ask: &Ask, id: ResourceId, minute: u32) -> u64
     ensures value { result ≡ own_load id minute ask.now }
     ensures small { result < 2 ^ 32 }
@@ -67,7 +67,7 @@ fn loads(
 }
 
 /// What a booking takes of a plain resource.
-#[tactic(auto, unfolding(desk_base::specs::Load::plain_load))]
+#[tactic(auto, unfolding(desk_base::specs::meaning::Load::plain_load))]
 fn plain_load(
     alloc: Global,
     tables: &Tables,
@@ -104,7 +104,7 @@ fn members_load(
 }
 
 /// What a booking takes of the resource at the minute.
-#[tactic(auto, unfolding(desk_base::specs::Load::load))]
+#[tactic(auto, unfolding(desk_base::specs::meaning::Load::load))]
 pub fn load(
     alloc: Global,
     tables: &Tables,
@@ -160,7 +160,7 @@ fn members_room(tables: &Tables, list: &[ResourceId], minute: u32) -> u128
 }
 
 /// What the resource has to give at the minute; `None` is without bound.
-#[tactic(auto, unfolding(desk_base::specs::Load::room))]
+#[tactic(auto, unfolding(desk_base::specs::meaning::Load::room))]
 pub fn room(
     alloc: Global,
     tables: &Tables,

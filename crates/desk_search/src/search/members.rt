@@ -1,8 +1,8 @@
 //! How a resource takes load, and who is in a crew or a pool.
 ghost use Rattle.std.specs.Prelude.{◌≡◌, ◌≤◌, ◌==◌, ◌&&◌, length, IfOk};
 ghost use Rattle.std.specs.List.{list_any};
-ghost use Rattle.desk_base.specs.Load.{sort_of, sort_of_kind, is_crew, members};
-ghost use Rattle.desk_base.specs.Time.{covers};
+ghost use Rattle.desk_base.specs.meaning.Load.{sort_of, sort_of_kind, is_crew, members};
+ghost use Rattle.desk_base.specs.meaning.Time.{covers};
 ghost use Rattle.desk_search.specs.Sorts.{Names};
 
 use crate::lookup::{is_listed, is_within, resource_of};

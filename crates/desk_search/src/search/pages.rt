@@ -1,22 +1,20 @@
 //! Pages of a search, cut from the list of its live positions.
 ghost use Rattle.std.specs.Prelude.{◌≡◌, Contains, ◌≤◌, length, take, filter, map, IfOk, None, option_copied};
 ghost use Rattle.std.specs.List.{last_or};
-ghost use Rattle.desk_base.specs.Limits.{page_limit, passed_limit};
-ghost use Rattle.desk_base.specs.Page.{passed_of, page_of, IsPage, IsAskable};
-ghost use Rattle.desk_base.specs.Positions.{precedes, positions_after};
+ghost use Rattle.desk_base.specs.rules.Limits.{page_limit, passed_limit};
+ghost use Rattle.desk_base.specs.search.Page.{passed_of, page_of, IsPage, IsAskable};
+ghost use Rattle.desk_base.specs.search.Positions.{precedes, positions_after};
 ghost use Rattle.desk_search.specs.Intervals.{page_passed, page_over};
-ghost use Rattle.desk_base.specs.Sound.{AreWellFormed};
-ghost use Rattle.desk_base.specs.Load.{Fits, ask_of};
+ghost use Rattle.desk_base.specs.rules.Sound.{AreWellFormed};
+ghost use Rattle.desk_base.specs.meaning.Load.{Fits, ask_of};
 
 use crate::search::intervals::{due_of, shown_after};
 use crate::search::listing::rows_among;
 use crate::search::live::live_positions;
+use desk_base::limits::PASSED_LIMIT;
 use desk_base::{Duplicate, GroupRow, Items, NoMemory, Options, Page, Position, Tables};
 use std::alloc::Global;
 use std::cmp::Ordering;
-
-/// How many positions a page passes at most.
-const PASSED_LIMIT: u32 = 4096;
 
 fn precedes(a: &Position, b: &Position) -> bool
     ensures { result ≡ precedes a.now b.now }

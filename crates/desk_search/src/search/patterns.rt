@@ -1,8 +1,8 @@
 //! Whether picks can be extended to one of the patterns of a tree.
 ghost use Rattle.std.specs.Prelude.{◌≡◌, ◌≤◌, length, take, IfOk, MatchOption};
 ghost use Rattle.std.specs.List.{list_any};
-ghost use Rattle.desk_base.specs.Picks.{pattern_of};
-ghost use Rattle.desk_base.specs.Trees.{tree_of, patterns};
+ghost use Rattle.desk_base.specs.meaning.Picks.{pattern_of};
+ghost use Rattle.desk_base.specs.meaning.Trees.{tree_of, patterns};
 ghost use Rattle.desk_search.specs.Parts.{lists_of_first};
 ghost use Rattle.desk_search.specs.Shapes.{begins_one_of, BeginWith, IsFirstStray};
 ghost use Rattle.desk_search.specs.Tests.{are_same_bits, begins, begins_pattern};

@@ -1,10 +1,10 @@
 //! Whether a position is live.
 ghost use Rattle.std.specs.Prelude.{◌≡◌, ◌≤◌, ◌<◌, ◌+◌, ◌^◌, length, IfOk, is_none};
 ghost use Rattle.std.specs.List.{list_all};
-ghost use Rattle.desk_base.specs.Eligible.{first_broken_at};
-ghost use Rattle.desk_base.specs.Picks.{choices_of};
-ghost use Rattle.desk_base.specs.Listing.{serves};
-ghost use Rattle.desk_base.specs.Positions.{position_at};
+ghost use Rattle.desk_base.specs.meaning.Eligible.{first_broken_at};
+ghost use Rattle.desk_base.specs.meaning.Picks.{choices_of};
+ghost use Rattle.desk_base.specs.search.Listing.{serves};
+ghost use Rattle.desk_base.specs.search.Positions.{position_at};
 ghost use Rattle.desk_search.specs.Tests.{is_live};
 
 use crate::search::asks::{new_asks, other_asks};

@@ -27,7 +27,7 @@ fn have_room_at(
 }
 
 /// Whether at each minute of one booking each resource has room.
-#[tactic(auto, using(desk_base::proofs::Tests::list_all_range, desk_base::proofs::Tests::list_all_range_not), unfolding(crate::specs::Rooms::have_room_during))]
+#[tactic(auto, using(desk_base::proofs::lists::Tests::list_all_range, desk_base::proofs::lists::Tests::list_all_range_not), unfolding(crate::specs::Rooms::have_room_during))]
 fn have_room_during(
     alloc: Global,
     tables: &Tables,

@@ -1,8 +1,8 @@
 //! Whether the parts of a group that are to be of the same are.
 ghost use Rattle.std.specs.Prelude.{◌≡◌, ◌≤◌, ◌<◌, ◌^◌, ◌+◌, ◌==◌, length, take, drop, map, position, not, option_map, is_none, MatchOption, ⊤, IfOk};
 ghost use Rattle.std.specs.List.{list_all};
-ghost use Rattle.desk_base.specs.Picks.{choices_of, unit_of, site_of, are_all_equal, keeps, leaves_under, spans, keeps_same, first_broken_same};
-ghost use Rattle.desk_base.specs.Trees.{is_leaf, leaf_bit};
+ghost use Rattle.desk_base.specs.meaning.Picks.{choices_of, unit_of, site_of, are_all_equal, keeps, leaves_under, spans, keeps_same, first_broken_same};
+ghost use Rattle.desk_base.specs.meaning.Trees.{is_leaf, leaf_bit};
 
 use crate::lookup::resource_of;
 use crate::search::choices::chosen;
@@ -135,7 +135,7 @@ fn first_leaves(count: usize, leaves: &[Leaf]) -> &[Leaf]
 }
 
 /// Whether what is chosen under the node is of the same as it asks.
-#[tactic(auto, unfolding(desk_base::specs::Picks::keeps_same))]
+#[tactic(auto, unfolding(desk_base::specs::meaning::Picks::keeps_same))]
 fn keeps_same(
     alloc: Global,
     tables: &Tables,
@@ -178,7 +178,7 @@ fn one_later(place: Option<usize>) -> Option<usize>
 }
 
 /// The first of the nodes whose part-of-same is broken, where so many leaves come before them.
-#[tactic(auto, using(desk_base::proofs::Places::position_true, desk_base::proofs::Places::position_false))]
+#[tactic(auto, using(desk_base::proofs::lists::Places::position_true, desk_base::proofs::lists::Places::position_false))]
 fn first_broken_same(
     alloc: Global,
     tables: &Tables,

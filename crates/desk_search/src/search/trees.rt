@@ -1,6 +1,6 @@
 //! The patterns of a tree, all of them written out.
 ghost use Rattle.std.specs.Prelude.{◌≡◌, ◌∷◌, [], ◌++◌, ◌≤◌, ◌<◌, ◌^◌, ◌+◌, length, take, drop, map, replicate, IfOk, OnOk, false, true, List, Bool};
-ghost use Rattle.desk_base.specs.Trees.{trees_of, concatenations};
+ghost use Rattle.desk_base.specs.meaning.Trees.{trees_of, concatenations};
 ghost use Rattle.desk_search.specs.Parts.{part_of, parts_under, parts_beside, joined_lists, lists_of_one, total_size, part_by};
 
 use desk_base::{Items, Node, NodeKind};

@@ -1,4 +1,4 @@
-use Rattle.desk_base.proofs.Numbers.{numbers_rise}
+use Rattle.desk_base.proofs.histories.Numbers.{numbers_rise}
 use Rattle.desk_base.proofs.laws.booking_numbers_rise.Goals as goal
 
 pub returns : goal.returns

@@ -1,5 +1,5 @@
-use Rattle.desk_base.proofs.Pages.{row_from_live}
-use Rattle.desk_base.proofs.Shapes.{sound_group}
+use Rattle.desk_base.proofs.searched.Pages.{row_from_live}
+use Rattle.desk_base.proofs.meaning.Shapes.{sound_group}
 use Rattle.desk_base.proofs.laws.full_position_is_row.Goals as goal
 
 pub returns : goal.returns

@@ -1,5 +1,5 @@
-use Rattle.desk_base.proofs.Pages.{full_rows}
-use Rattle.desk_base.proofs.Shapes.{sound_group}
+use Rattle.desk_base.proofs.searched.Pages.{full_rows}
+use Rattle.desk_base.proofs.meaning.Shapes.{sound_group}
 use Rattle.desk_base.proofs.laws.full_positions_are_rows.Goals as goal
 
 pub returns : goal.returns

@@ -1,4 +1,4 @@
-use Rattle.desk_base.proofs.Unders.{under_is}
+use Rattle.desk_base.proofs.meaning.Unders.{under_is}
 use Rattle.desk_base.proofs.laws.leaves_under_are_counted.Goals as goal
 
 pub returns : goal.returns

@@ -1,4 +1,4 @@
-use Rattle.desk_base.proofs.Pages.{listing-same}
+use Rattle.desk_base.proofs.searched.Pages.{listing-same}
 use Rattle.desk_base.proofs.laws.listings_agree.Goals as goal
 
 pub returns : goal.returns

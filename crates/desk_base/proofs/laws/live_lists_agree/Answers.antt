@@ -1,7 +1,7 @@
-use Rattle.desk_base.specs.Order.{position_cmp}
-use Rattle.desk_base.specs.OrderLaws.{position_total}
-use Rattle.desk_base.specs.Listing.{IsLive}
-use Rattle.desk_base.proofs.Orders.{Enumerates-same}
+use Rattle.desk_base.specs.search.Order.{position_cmp}
+use Rattle.desk_base.specs.search.OrderLaws.{position_total}
+use Rattle.desk_base.specs.search.Listing.{IsLive}
+use Rattle.desk_base.proofs.lists.Orders.{Enumerates-same}
 use Rattle.desk_base.proofs.laws.live_lists_agree.Goals as goal
 
 pub returns : goal.returns

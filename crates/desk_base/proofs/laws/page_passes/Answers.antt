@@ -1,4 +1,4 @@
-use Rattle.desk_base.proofs.Passed.{page_passes}
+use Rattle.desk_base.proofs.searched.Passed.{page_passes}
 use Rattle.desk_base.proofs.laws.page_passes.Goals as goal
 
 pub returns : goal.returns

@@ -1,4 +1,4 @@
-use Rattle.desk_base.proofs.Pages.{page-same}
+use Rattle.desk_base.proofs.searched.Pages.{page-same}
 use Rattle.desk_base.proofs.laws.pages_agree.Goals as goal
 
 pub returns : goal.returns

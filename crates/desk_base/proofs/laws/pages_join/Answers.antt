@@ -1,5 +1,5 @@
-use Rattle.desk_base.proofs.Pages.{pages_join}
-use Rattle.desk_base.proofs.Shapes.{sound_group}
+use Rattle.desk_base.proofs.searched.Pages.{pages_join}
+use Rattle.desk_base.proofs.meaning.Shapes.{sound_group}
 use Rattle.desk_base.proofs.laws.pages_join.Goals as goal
 
 pub returns : goal.returns

@@ -1,4 +1,4 @@
-use Rattle.desk_base.proofs.Passed.{passed_shortest}
+use Rattle.desk_base.proofs.searched.Passed.{passed_shortest}
 use Rattle.desk_base.proofs.laws.passes_no_more.Goals as goal
 
 pub returns : goal.returns

@@ -1,4 +1,4 @@
-use Rattle.desk_base.proofs.TrialSound.{trial_sound}
+use Rattle.desk_base.proofs.tables.TrialSound.{trial_sound}
 use Rattle.desk_base.proofs.laws.trial_is_sound.Goals as goal
 
 pub returns : goal.returns

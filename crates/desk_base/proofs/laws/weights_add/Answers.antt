@@ -1,4 +1,4 @@
-use Rattle.desk_base.proofs.Sums.{weight-append}
+use Rattle.desk_base.proofs.meaning.Sums.{weight-append}
 use Rattle.desk_base.proofs.laws.weights_add.Goals as goal
 
 pub returns : goal.returns

@@ -1,4 +1,4 @@
-use Rattle.desk_base.proofs.Sounds.{well_formed, bookings_fit}
+use Rattle.desk_base.proofs.tables.Sounds.{well_formed, bookings_fit}
 use Rattle.desk_core.proofs.answering.page_of.Goals as goal
 
 pub page-requires-clause-formed : goal.page-requires-clause-formed

@@ -1,6 +1,10 @@
 use Rattle.std.proofs.Common.{Some, ap, sym, inl, ◌∙◌}
+use Rattle.desk_base.proofs.tables.Sounds.{keys_rise}
 use Rattle.desk_core.proofs.GroupsThere.{known_page, unknown_page, found_group, page_answers, askable}
 use Rattle.desk_core.proofs.answering.rows.Goals as goal
+
+pub group-requires : goal.group-requires
+group-requires c table = keys_rise c.args.tables.now table c.requires
 
 pub page_of-requires-clause-there : goal.page_of-requires-clause-there
 page_of-requires-clause-there c = found_group c.args.tables.now c.args.group c.in-Some.row.now c.in-Some.ensures

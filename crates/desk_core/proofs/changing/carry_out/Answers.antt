@@ -1,6 +1,6 @@
 use Rattle.std.proofs.Common.{◌≡◌, List, None, sym, ap, ◌∙◌}
-use Rattle.desk_base.specs.declared.changes.Entry.{Entry}
-use Rattle.desk_base.specs.Refusing.{early_refusal}
+use Rattle.desk_base.specs.declared.asked.acts.Entry.{Entry}
+use Rattle.desk_base.specs.asked.Refusing.{early_refusal}
 use Rattle.desk_core.proofs.Unrefused.{accepted_by, sound_by}
 use Rattle.desk_core.proofs.changing.carry_out.Goals as goal
 

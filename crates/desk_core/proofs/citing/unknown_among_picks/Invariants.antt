@@ -1,7 +1,7 @@
 use Rattle.std.proofs.Common.{◌≡◌, map, take, None}
-use Rattle.desk_base.specs.declared.tables.Table.TheVariants.{Resource}
-use Rattle.desk_base.specs.Keys.{id_key}
-use Rattle.desk_base.specs.Refusing.{picked, unknown_among}
+use Rattle.desk_base.specs.declared.rows.tables.Table.TheVariants.{Resource}
+use Rattle.desk_base.specs.rows.Keys.{id_key}
+use Rattle.desk_base.specs.asked.Refusing.{picked, unknown_among}
 use Rattle.desk_core.proofs.citing.unknown_among_picks.Given as goal
 
 abbrev pub invariant-loop-pick : goal.invariant-loop-pick

@@ -1,7 +1,7 @@
 use Rattle.std.proofs.Common.{◌∙◌}
 use Rattle.std.specs.Option.{option_or}
-use Rattle.desk_base.specs.Callers.{last_number}
-use Rattle.desk_base.specs.Refusing.{refused_entry, refused_number, unknown_among, cited_by, refused_field, refused_place, refused_booked, refused_open}
+use Rattle.desk_base.specs.asked.Callers.{last_number}
+use Rattle.desk_base.specs.asked.Refusing.{refused_entry, refused_number, unknown_among, cited_by, refused_field, refused_place, refused_booked, refused_open}
 use Rattle.desk_core.proofs.EarlyParts.{early-parts, first_part, second_part, third_part}
 use Rattle.desk_core.proofs.early.early_refusal.Goals as goal
 

@@ -1,9 +1,13 @@
 use Rattle.std.proofs.Common.{◌+◌, length, sym, ap, arith}
-use Rattle.desk_base.specs.Picks.{choices_of}
-use Rattle.desk_base.proofs.NewBookings.{length-bookings_from}
-use Rattle.desk_base.proofs.FeasibleBookings.{new_is}
+use Rattle.desk_base.proofs.tables.Sounds.{keys_rise}
+use Rattle.desk_base.specs.meaning.Picks.{choices_of}
+use Rattle.desk_base.proofs.booked.NewBookings.{length-bookings_from}
+use Rattle.desk_base.proofs.booked.FeasibleBookings.{new_is}
 use Rattle.desk_core.proofs.GroupsThere.{found_group}
 use Rattle.desk_core.proofs.effects.effect_of_book_group.Goals as goal
+
+pub group-requires : goal.group-requires
+group-requires c table = keys_rise c.args.tables.now table c.requires.sound
 
 pub effect_of_booking-requires-clause-there : goal.effect_of_booking-requires-clause-there
 effect_of_booking-requires-clause-there c = found_group c.args.tables.now c.args.group c.in-Some.row.now c.in-Some.ensures

@@ -1,7 +1,7 @@
 use Rattle.std.proofs.Common.{◌≡◌, sym, ap, subst}
 use Rattle.std.specs.Prelude.{Result, Ok, Err, IfErr, IsErrAnd}
-use Rattle.desk_base.specs.Acts.{change_of}
-use Rattle.desk_base.proofs.Sounds.{keys_rise}
+use Rattle.desk_base.specs.asked.Acts.{change_of}
+use Rattle.desk_base.proofs.tables.Sounds.{keys_rise}
 use Rattle.desk_core.specs.declared.accepting.Accepted.{Accepted}
 use Rattle.desk_core.specs.Entered.{IsLateHindrance}
 use Rattle.desk_core.proofs.Trying.{can_be_tried_by, after_by, fit_by, hindrance_by}

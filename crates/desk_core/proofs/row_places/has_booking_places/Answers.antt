@@ -1,5 +1,5 @@
 use Rattle.std.proofs.Common.{arith}
-use Rattle.desk_base.proofs.Shapes.{few_bookings}
+use Rattle.desk_base.proofs.meaning.Shapes.{few_bookings}
 use Rattle.desk_core.proofs.row_places.has_booking_places.Goals as goal
 
 pub overflow_add-result : goal.overflow_add-result

@@ -1,7 +1,7 @@
 use Rattle.std.proofs.Common.{◌++◌, sym, ap, subst, ◌∙◌}
-use Rattle.desk_base.specs.Load.{weight}
-use Rattle.desk_base.specs.Efforts.{AreLight}
-use Rattle.desk_base.proofs.Efforts.{light_uses}
+use Rattle.desk_base.specs.meaning.Load.{weight}
+use Rattle.desk_base.specs.meaning.Efforts.{AreLight}
+use Rattle.desk_base.proofs.meaning.Efforts.{light_uses}
 use Rattle.desk_search.specs.Clashes.{IsFirstOver}
 use Rattle.desk_search.proofs.Overs.{clash_is}
 use Rattle.desk_search.proofs.clashes.clash.Goals as goal

@@ -1,7 +1,7 @@
 use Rattle.std.proofs.Common.{ℕ, ◌-◌, ◌≤◌, ◌<◌}
-use Rattle.desk_base.specs.Limits.{first_minute, end_of_minutes}
-use Rattle.desk_base.specs.Time.{IsMinute}
-use Rattle.desk_base.specs.Load.{IsWithinRoom}
+use Rattle.desk_base.specs.rules.Limits.{first_minute, end_of_minutes}
+use Rattle.desk_base.specs.meaning.Time.{IsMinute}
+use Rattle.desk_base.specs.meaning.Load.{IsWithinRoom}
 use Rattle.desk_search.proofs.clashes.first_over.Given as goal
 
 abbrev pub invariant-loop-minute : goal.invariant-loop-minute

@@ -1,8 +1,8 @@
 use Rattle.std.proofs.Common.{◌<◌, length, sym, ap, ◌∙◌, arith, option_map}
 use Rattle.std.specs.Option.{option_map_or}
-use Rattle.desk_base.specs.declared.booking_rows.BookingRow.{BookingRow}
-use Rattle.desk_base.specs.declared.refusals.Shown.TheVariants.{Booking, Gap}
-use Rattle.desk_base.specs.Load.{ask_of, counts}
+use Rattle.desk_base.specs.declared.rows.bookings.BookingRow.{BookingRow}
+use Rattle.desk_base.specs.declared.asked.refusals.Shown.TheVariants.{Booking, Gap}
+use Rattle.desk_base.specs.meaning.Load.{ask_of, counts}
 use Rattle.desk_search.proofs.Overs.{find_here, find_more}
 use Rattle.desk_search.proofs.clashes.shown_at.Goals as goal
 

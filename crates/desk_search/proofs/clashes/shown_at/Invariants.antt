@@ -1,6 +1,6 @@
 use Rattle.std.proofs.Common.{◌≡◌, take, None, find}
-use Rattle.desk_base.specs.declared.booking_rows.BookingRow.{BookingRow}
-use Rattle.desk_base.specs.Load.{ask_of, counts}
+use Rattle.desk_base.specs.declared.rows.bookings.BookingRow.{BookingRow}
+use Rattle.desk_base.specs.meaning.Load.{ask_of, counts}
 use Rattle.desk_search.proofs.clashes.shown_at.Given as goal
 
 abbrev pub invariant-loop-booking : goal.invariant-loop-booking

@@ -1,6 +1,6 @@
 use Rattle.std.proofs.Common.{◌≤◌, ◌+◌, ◌*◌, length, sym, subst, arith}
-use Rattle.desk_base.specs.Limits.{effort_limit}
-use Rattle.desk_base.proofs.Efforts.{weight_light}
+use Rattle.desk_base.specs.rules.Limits.{effort_limit}
+use Rattle.desk_base.proofs.meaning.Efforts.{weight_light}
 use Rattle.desk_search.proofs.Overs.{light_weigh}
 use Rattle.desk_search.proofs.clashes.weight_at.Goals as goal
 

@@ -1,7 +1,7 @@
 use Rattle.std.proofs.Common.{◌≡◌, ◌==◌, take}
 use Rattle.std.specs.List.{fold}
 use Rattle.std.specs.Prelude.{if◌then◌else◌}
-use Rattle.desk_base.specs.declared.calendar_rows.BreakRow.{BreakRow}
+use Rattle.desk_base.specs.declared.rows.calendars.BreakRow.{BreakRow}
 use Rattle.desk_search.specs.Events.{nearer_time}
 use Rattle.desk_search.proofs.events.after_breaks.Given as goal
 

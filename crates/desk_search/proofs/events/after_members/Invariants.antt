@@ -1,6 +1,6 @@
 use Rattle.std.proofs.Common.{◌≡◌, take}
 use Rattle.std.specs.List.{fold}
-use Rattle.desk_base.specs.declared.resource_rows.MemberRow.{MemberRow}
+use Rattle.desk_base.specs.declared.rows.resources.MemberRow.{MemberRow}
 use Rattle.desk_search.specs.Events.{nearer_bound}
 use Rattle.desk_search.proofs.events.after_members.Given as goal
 

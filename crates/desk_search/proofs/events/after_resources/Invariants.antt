@@ -1,7 +1,7 @@
 use Rattle.std.proofs.Common.{◌≡◌, take}
 use Rattle.std.specs.List.{fold}
 use Rattle.std.specs.Option.{option_map_or}
-use Rattle.desk_base.specs.declared.resource_rows.ResourceRow.{ResourceRow}
+use Rattle.desk_base.specs.declared.rows.resources.ResourceRow.{ResourceRow}
 use Rattle.desk_search.specs.Events.{after_clock}
 use Rattle.desk_search.proofs.events.after_resources.Given as goal
 

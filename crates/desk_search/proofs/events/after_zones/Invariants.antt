@@ -1,6 +1,6 @@
 use Rattle.std.proofs.Common.{◌≡◌, ℕ, ℤ, take}
 use Rattle.std.specs.List.{fold}
-use Rattle.desk_base.specs.declared.calendar_rows.ZoneRow.{ZoneRow}
+use Rattle.desk_base.specs.declared.rows.calendars.ZoneRow.{ZoneRow}
 use Rattle.desk_search.specs.Clashes.{nearer}
 use Rattle.desk_search.proofs.events.after_zones.Given as goal
 

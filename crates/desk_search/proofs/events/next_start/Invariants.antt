@@ -1,7 +1,7 @@
 use Rattle.std.proofs.Common.{◌≡◌, take}
 use Rattle.std.specs.List.{fold}
-use Rattle.desk_base.specs.declared.searches.Ask.{Ask}
-use Rattle.desk_base.specs.Limits.{end_of_minutes}
+use Rattle.desk_base.specs.declared.search.results.Ask.{Ask}
+use Rattle.desk_base.specs.rules.Limits.{end_of_minutes}
 use Rattle.desk_search.specs.Clashes.{nearer}
 use Rattle.desk_search.proofs.events.next_start.Given as goal
 

@@ -1,6 +1,6 @@
 use Rattle.std.proofs.Common.{◌≡◌, take, []}
 use Rattle.std.specs.List.{fold}
-use Rattle.desk_base.specs.declared.searches.Ask.{Ask}
+use Rattle.desk_base.specs.declared.search.results.Ask.{Ask}
 use Rattle.desk_search.specs.Extracts.{with_id}
 use Rattle.desk_search.proofs.extracts.booked_ids.Given as goal
 

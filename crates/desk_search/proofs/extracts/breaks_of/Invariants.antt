@@ -1,5 +1,5 @@
 use Rattle.std.proofs.Common.{◌≡◌, take, filter}
-use Rattle.desk_base.specs.declared.calendar_rows.BreakRow.{BreakRow}
+use Rattle.desk_base.specs.declared.rows.calendars.BreakRow.{BreakRow}
 use Rattle.desk_search.specs.Extracts.{is_listed}
 use Rattle.desk_search.proofs.extracts.breaks_of.Given as goal
 

@@ -1,5 +1,5 @@
 use Rattle.std.proofs.Common.{◌≡◌, take, filter}
-use Rattle.desk_base.specs.declared.calendar_rows.CalendarRow.{CalendarRow}
+use Rattle.desk_base.specs.declared.rows.calendars.CalendarRow.{CalendarRow}
 use Rattle.desk_search.specs.Extracts.{is_listed}
 use Rattle.desk_search.proofs.extracts.calendars_among.Given as goal
 

@@ -1,5 +1,5 @@
 use Rattle.std.proofs.Common.{◌≡◌, take, filter}
-use Rattle.desk_base.specs.declared.resource_rows.MemberRow.{MemberRow}
+use Rattle.desk_base.specs.declared.rows.resources.MemberRow.{MemberRow}
 use Rattle.desk_search.specs.Extracts.{is_listed}
 use Rattle.desk_search.proofs.extracts.members_of.Given as goal
 

@@ -1,7 +1,7 @@
 use Rattle.std.proofs.Common.{◌≡◌, take}
 use Rattle.std.specs.List.{fold}
 use Rattle.std.specs.Prelude.{if◌then◌else◌}
-use Rattle.desk_base.specs.declared.resource_rows.MemberRow.{MemberRow}
+use Rattle.desk_base.specs.declared.rows.resources.MemberRow.{MemberRow}
 use Rattle.desk_search.specs.Extracts.{is_listed, with_id}
 use Rattle.desk_search.proofs.extracts.with_members.Given as goal
 

@@ -1,5 +1,5 @@
 use Rattle.std.proofs.Common.{◌≡◌, take, filter}
-use Rattle.desk_base.specs.declared.calendar_rows.WorkRow.{WorkRow}
+use Rattle.desk_base.specs.declared.rows.calendars.WorkRow.{WorkRow}
 use Rattle.desk_search.specs.Extracts.{is_listed}
 use Rattle.desk_search.proofs.extracts.works_of.Given as goal
 

@@ -1,5 +1,5 @@
 use Rattle.std.proofs.Common.{◌≡◌, take, filter}
-use Rattle.desk_base.specs.declared.calendar_rows.ZoneRow.{ZoneRow}
+use Rattle.desk_base.specs.declared.rows.calendars.ZoneRow.{ZoneRow}
 use Rattle.desk_search.specs.Extracts.{is_listed}
 use Rattle.desk_search.proofs.extracts.zones_among.Given as goal
 

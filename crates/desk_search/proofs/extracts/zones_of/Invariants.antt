@@ -1,6 +1,6 @@
 use Rattle.std.proofs.Common.{◌≡◌, take, []}
 use Rattle.std.specs.List.{fold}
-use Rattle.desk_base.specs.declared.calendar_rows.CalendarRow.{CalendarRow}
+use Rattle.desk_base.specs.declared.rows.calendars.CalendarRow.{CalendarRow}
 use Rattle.desk_search.specs.Extracts.{with_id}
 use Rattle.desk_search.proofs.extracts.zones_of.Given as goal
 

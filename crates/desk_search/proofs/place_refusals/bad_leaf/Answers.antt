@@ -1,5 +1,5 @@
 use Rattle.std.proofs.Common.{arith}
-use Rattle.desk_base.specs.Picks.{pattern_of}
+use Rattle.desk_base.specs.meaning.Picks.{pattern_of}
 use Rattle.desk_search.proofs.BadShapes.{stray_is_leaf, stray_is_bad, picks_short, picks_long}
 use Rattle.desk_search.proofs.place_refusals.bad_leaf.Goals as goal
 

@@ -1,7 +1,7 @@
 use Rattle.std.proofs.Common.{◌^◌, map, sym, ap, ◌∙◌, subst}
-use Rattle.desk_base.specs.Picks.{choices_of}
-use Rattle.desk_base.specs.Listing.{ask_for}
-use Rattle.desk_base.specs.Efforts.{AreLight, AreLightBookings}
+use Rattle.desk_base.specs.meaning.Picks.{choices_of}
+use Rattle.desk_base.specs.search.Listing.{ask_for}
+use Rattle.desk_base.specs.meaning.Efforts.{AreLight, AreLightBookings}
 use Rattle.desk_search.proofs.PlaceRefusals.{few_together}
 use Rattle.desk_search.proofs.place_refusals.clash_with_others.Goals as goal
 

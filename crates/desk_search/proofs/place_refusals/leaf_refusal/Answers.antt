@@ -1,5 +1,5 @@
 use Rattle.std.proofs.Common.{arith, length, sym, ap, ◌∙◌}
-use Rattle.desk_base.proofs.Shapes.{few_leaves}
+use Rattle.desk_base.proofs.meaning.Shapes.{few_leaves}
 use Rattle.desk_search.proofs.PlaceRefusals.{unserved_is, served_from}
 use Rattle.desk_search.proofs.place_refusals.leaf_refusal.Goals as goal
 

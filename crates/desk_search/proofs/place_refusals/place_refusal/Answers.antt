@@ -1,4 +1,4 @@
-use Rattle.desk_base.proofs.Shapes.{sound_group}
+use Rattle.desk_base.proofs.meaning.Shapes.{sound_group}
 use Rattle.desk_search.proofs.place_refusals.place_refusal.Goals as goal
 
 pub is_on_grid-requires : goal.is_on_grid-requires

@@ -1,7 +1,7 @@
 use Rattle.std.proofs.Common.{arith}
-use Rattle.desk_base.specs.Picks.{choices_of}
-use Rattle.desk_base.proofs.Efforts.{asks_light}
-use Rattle.desk_base.proofs.Shapes.{few_leaves}
+use Rattle.desk_base.specs.meaning.Picks.{choices_of}
+use Rattle.desk_base.proofs.meaning.Efforts.{asks_light}
+use Rattle.desk_base.proofs.meaning.Shapes.{few_leaves}
 use Rattle.desk_search.proofs.Asks.{ends_fit}
 use Rattle.desk_search.proofs.PlaceRefusals.{few_members, few_bookings, others_light, feasible, conflict}
 use Rattle.desk_search.proofs.place_refusals.room_refusal.Goals as goal

@@ -1,5 +1,5 @@
 use Rattle.std.proofs.Common.{arith, sym, ◌∙◌}
-use Rattle.desk_base.proofs.Shapes.{few_nodes_of}
+use Rattle.desk_base.proofs.meaning.Shapes.{few_nodes_of}
 use Rattle.desk_search.proofs.place_refusals.same_refusal.Goals as goal
 
 pub first_broken_node-requires : goal.first_broken_node-requires

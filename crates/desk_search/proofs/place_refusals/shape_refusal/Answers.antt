@@ -1,6 +1,6 @@
 use Rattle.std.proofs.Common.{arith}
-use Rattle.desk_base.proofs.Shapes.{sound_group, few_leaves}
-use Rattle.desk_search.proofs.SomePatterns.{nothing_begins}
+use Rattle.desk_base.proofs.meaning.Shapes.{sound_group, few_leaves}
+use Rattle.desk_base.proofs.meaning.Chosen.{nothing_begins}
 use Rattle.desk_search.proofs.place_refusals.shape_refusal.Goals as goal
 
 pub bad_leaf-requires-clause-leaves : goal.bad_leaf-requires-clause-leaves

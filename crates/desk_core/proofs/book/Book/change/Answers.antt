@@ -1,8 +1,8 @@
 use Rattle.std.proofs.Common.{refl, sym, ap, subst}
-use Rattle.desk_base.specs.declared.answers.Command.TheVariants.{Change}
-use Rattle.desk_base.specs.declared.answers.Outcome.{Outcome}
-use Rattle.desk_base.specs.declared.answers.Outcome.TheVariants as outcome
-use Rattle.desk_base.specs.Steps.{IsTurn}
+use Rattle.desk_base.specs.declared.asked.answers.Command.TheVariants.{Change}
+use Rattle.desk_base.specs.declared.asked.answers.Outcome.{Outcome}
+use Rattle.desk_base.specs.declared.asked.answers.Outcome.TheVariants as outcome
+use Rattle.desk_base.specs.asked.Steps.{IsTurn}
 use Rattle.desk_core.specs.Books.{BookState}
 use Rattle.desk_core.proofs.Outcomes.{kept_by, turn_by, repeated_turn}
 use Rattle.desk_core.proofs.book.Book.change.Goals as goal

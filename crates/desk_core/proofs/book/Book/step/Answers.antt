@@ -1,8 +1,8 @@
 use Rattle.std.proofs.Common.{refl, sym, subst}
-use Rattle.desk_base.specs.declared.tables.Tables.{Tables}
-use Rattle.desk_base.specs.declared.answers.Command.{Command}
-use Rattle.desk_base.specs.declared.answers.Outcome.{Outcome}
-use Rattle.desk_base.specs.Steps.{IsTurn}
+use Rattle.desk_base.specs.declared.rows.tables.Tables.{Tables}
+use Rattle.desk_base.specs.declared.asked.answers.Command.{Command}
+use Rattle.desk_base.specs.declared.asked.answers.Outcome.{Outcome}
+use Rattle.desk_base.specs.asked.Steps.{IsTurn}
 use Rattle.desk_core.specs.Answering.{IsAnswerOrNone}
 use Rattle.desk_core.specs.Built.{IsBuilt}
 use Rattle.desk_core.proofs.Outcomes.{asked_turn}

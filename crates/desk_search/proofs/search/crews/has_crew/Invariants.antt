@@ -1,8 +1,8 @@
 use Rattle.std.proofs.Common.{◌≡◌, ◌&&◌, take, false}
 use Rattle.std.specs.List.{list_any, list_all}
-use Rattle.desk_base.specs.declared.resource_rows.ResourceRow.{ResourceRow}
-use Rattle.desk_base.specs.Load.{sort_of_kind, is_crew}
-use Rattle.desk_base.specs.Picks.{choices_of, is_in_crew}
+use Rattle.desk_base.specs.declared.rows.resources.ResourceRow.{ResourceRow}
+use Rattle.desk_base.specs.meaning.Load.{sort_of_kind, is_crew}
+use Rattle.desk_base.specs.meaning.Picks.{choices_of, is_in_crew}
 use Rattle.desk_search.proofs.search.crews.has_crew.Given as goal
 
 abbrev pub invariant-loop-row : goal.invariant-loop-row

@@ -1,10 +1,10 @@
 use Rattle.std.proofs.Common.{◌≡◌, ◌+◌, ◌≤◌, ◌<◌, ◌==◌, ℕ, false, min, max, sym, ap, ◌∙◌, arith}
 use Rattle.std.proofs.lemmas.Grind.{common_steps}
 use Rattle.std.specs.List.{list_any, list_all, range_with_len}
-use Rattle.desk_base.specs.Limits.{first_minute, end_of_minutes}
-use Rattle.desk_base.specs.Load.{members}
-use Rattle.desk_base.specs.Picks.{is_member_throughout}
-use Rattle.desk_base.proofs.Tests.{list_all_range, list_all_range_not}
+use Rattle.desk_base.specs.rules.Limits.{first_minute, end_of_minutes}
+use Rattle.desk_base.specs.meaning.Load.{members}
+use Rattle.desk_base.specs.meaning.Picks.{is_member_throughout}
+use Rattle.desk_base.proofs.lists.Tests.{list_all_range, list_all_range_not}
 use Rattle.desk_search.proofs.search.crews.is_member_throughout.Goals as goal
 
 pub returns-then-not-is_there : goal.returns-then-not-is_there

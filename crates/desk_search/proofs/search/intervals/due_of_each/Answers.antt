@@ -1,8 +1,8 @@
 use Rattle.std.proofs.Common.{◌<◌, ◌++◌, ◌∷◌, [], Bool, List, length, filter, ap, ◌∙◌, arith}
 use Rattle.std.specs.Option.{option_copied}
-use Rattle.desk_base.specs.declared.searches.Found.{Found}
-use Rattle.desk_base.specs.declared.searches.Position.{Position}
-use Rattle.desk_base.specs.Positions.{rows_among}
+use Rattle.desk_base.specs.declared.search.results.Found.{Found}
+use Rattle.desk_base.specs.declared.search.results.Position.{Position}
+use Rattle.desk_base.specs.search.Positions.{rows_among}
 use Rattle.desk_search.specs.Intervals.{is_due}
 use Rattle.desk_search.proofs.Listing.{next_filtered}
 use Rattle.desk_search.proofs.search.intervals.due_of_each.Goals as goal

@@ -1,6 +1,6 @@
 use Rattle.std.proofs.Common.{◌≡◌, take, filter}
 use Rattle.std.specs.Option.{option_copied}
-use Rattle.desk_base.specs.Positions.{rows_among}
+use Rattle.desk_base.specs.search.Positions.{rows_among}
 use Rattle.desk_search.specs.Intervals.{is_due}
 use Rattle.desk_search.proofs.search.intervals.due_of_each.Given as goal
 

@@ -1,5 +1,5 @@
 use Rattle.std.proofs.Common.{◌≡◌, nat_lt, take, filter}
-use Rattle.desk_base.specs.Listing.{rows_before}
+use Rattle.desk_base.specs.search.Listing.{rows_before}
 use Rattle.desk_search.proofs.search.intervals.first_rows.Given as goal
 
 abbrev pub invariant-loop-row : goal.invariant-loop-row

@@ -1,8 +1,8 @@
 use Rattle.std.proofs.Common.{length, ap, ◌∙◌}
-use Rattle.desk_base.specs.Listing.{shown_rows}
-use Rattle.desk_base.specs.Positions.{rows_among}
-use Rattle.desk_base.proofs.Pages.{full_rows}
-use Rattle.desk_base.proofs.Shapes.{sound_group}
+use Rattle.desk_base.specs.search.Listing.{shown_rows}
+use Rattle.desk_base.specs.search.Positions.{rows_among}
+use Rattle.desk_base.proofs.searched.Pages.{full_rows}
+use Rattle.desk_base.proofs.meaning.Shapes.{sound_group}
 use Rattle.desk_search.proofs.search.listing.rows.Goals as goal
 
 pub returns : goal.returns

@@ -1,7 +1,7 @@
 use Rattle.std.proofs.Common.{◌<◌, ◌≤◌, ◌-◌, ◌++◌, ◌∷◌, [], true, false, length, refl, ap, ◌∙◌, arith}
 use Rattle.std.proofs.lemmas.Grind.{common_steps}
-use Rattle.desk_base.proofs.Fewer.{Fits-others}
-use Rattle.desk_base.proofs.Shapes.{sound_group, few_leaves, few_nodes_of}
+use Rattle.desk_base.proofs.meaning.Fewer.{Fits-others}
+use Rattle.desk_base.proofs.meaning.Shapes.{sound_group, few_leaves, few_nodes_of}
 use Rattle.desk_search.proofs.PlaceRefusals.{few_bookings}
 use Rattle.desk_search.proofs.Below.{tested, from_here, none_from, none_below, no_choice, next_choice, all_choices}
 use Rattle.desk_search.proofs.search.live.+push_live.Goals as goal

@@ -1,9 +1,9 @@
 use Rattle.std.proofs.Common.{◌≡◌, ◌≤◌, ◌++◌, sym, ap, subst, ◌∙◌, arith}
-use Rattle.desk_base.specs.Listing.{IsLiveList}
-use Rattle.desk_base.specs.Trees.{tree_of, leaf_count}
-use Rattle.desk_base.proofs.Fewer.{Fits-others}
-use Rattle.desk_base.proofs.Shapes.{sound_group}
-use Rattle.desk_base.proofs.Sounds.{resources_in_order}
+use Rattle.desk_base.specs.search.Listing.{IsLiveList}
+use Rattle.desk_base.specs.meaning.Trees.{tree_of, leaf_count}
+use Rattle.desk_base.proofs.meaning.Fewer.{Fits-others}
+use Rattle.desk_base.proofs.meaning.Shapes.{sound_group}
+use Rattle.desk_base.proofs.tables.Sounds.{resources_in_order}
 use Rattle.desk_search.specs.Places.{live_below, live_before}
 use Rattle.desk_search.proofs.Below.{live_before-nil, live_before-more, live_before-all}
 use Rattle.desk_search.proofs.Places.{lives_are}

@@ -1,5 +1,5 @@
 use Rattle.std.proofs.Common.{◌≡◌, ◌≤◌, ◌*◌, ◌^◌, take, sum_by}
-use Rattle.desk_base.specs.Capacity.{capacity}
+use Rattle.desk_base.specs.meaning.Capacity.{capacity}
 use Rattle.desk_search.proofs.search.load.members_room.Given as goal
 
 abbrev pub invariant-loop-id : goal.invariant-loop-id

@@ -1,5 +1,5 @@
 use Rattle.std.proofs.Common.{◌≡◌, ◌≤◌, ◌*◌, ◌^◌, ◌+◌, take, length}
-use Rattle.desk_base.specs.Load.{weight}
+use Rattle.desk_base.specs.meaning.Load.{weight}
 use Rattle.desk_search.proofs.search.load.weight.Given as goal
 
 abbrev pub invariant-loop-ask : goal.invariant-loop-ask

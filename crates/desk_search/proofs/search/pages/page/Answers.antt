@@ -1,8 +1,8 @@
 use Rattle.std.proofs.Common.{length, ap, ◌∙◌}
 use Rattle.std.specs.Option.{option_copied}
-use Rattle.desk_base.specs.Page.{ResumePoint, page_of}
-use Rattle.desk_base.specs.Positions.{positions_after}
-use Rattle.desk_base.proofs.Pages.{pending_are}
+use Rattle.desk_base.specs.search.Page.{ResumePoint, page_of}
+use Rattle.desk_base.specs.search.Positions.{positions_after}
+use Rattle.desk_base.proofs.searched.Pages.{pending_are}
 use Rattle.desk_search.proofs.search.pages.page.Goals as goal
 
 pub returns : goal.returns

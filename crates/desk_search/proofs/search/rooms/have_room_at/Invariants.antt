@@ -1,6 +1,6 @@
 use Rattle.std.proofs.Common.{◌≡◌, take, true}
 use Rattle.std.specs.List.{list_all}
-use Rattle.desk_base.specs.declared.resource_rows.ResourceRow.{ResourceRow}
+use Rattle.desk_base.specs.declared.rows.resources.ResourceRow.{ResourceRow}
 use Rattle.desk_search.specs.Rooms.{has_room_at}
 use Rattle.desk_search.proofs.search.rooms.have_room_at.Given as goal
 

@@ -1,7 +1,7 @@
 use Rattle.std.proofs.Common.{◌≡◌, ◌≤◌, ◌<◌, false, sym, arith}
 use Rattle.std.proofs.lemmas.Grind.{common_steps}
 use Rattle.desk_search.specs.Rooms.{have_room_at, have_room_during}
-use Rattle.desk_base.proofs.Tests.{list_all_range_not}
+use Rattle.desk_base.proofs.lists.Tests.{list_all_range_not}
 use Rattle.desk_search.proofs.search.rooms.have_room_during.Goals as goal
 
 pub returns-then-not-branch : goal.returns-then-not-branch

@@ -1,5 +1,5 @@
 use Rattle.std.proofs.Common.{◌≡◌, take}
-use Rattle.desk_base.specs.Trees.{concatenations}
+use Rattle.desk_base.specs.meaning.Trees.{concatenations}
 use Rattle.desk_search.proofs.search.trees.concatenations.Given as goal
 
 abbrev pub invariant-loop-first : goal.invariant-loop-first

@@ -1,5 +1,0 @@
-use Rattle.std.proofs.Common.{◌≡◌, take}
-use Rattle.desk_base.proofs.copying.copy_items.Given as goal
-
-abbrev pub invariant-loop-item : goal.invariant-loop-item
-invariant-loop-item g l = (l.item-items ≡ l.items) × (l.copies ≡ take l.item-index l.item-items)

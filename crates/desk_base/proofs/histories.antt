@@ -1,0 +1,3 @@
+-- Journals.
+pub mod Journals
+pub mod Numbers
