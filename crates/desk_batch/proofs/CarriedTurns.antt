@@ -1,7 +1,7 @@
 -- Turns of one state, as turns of another.
 use Rattle.std.proofs.Common.{inl, inr, ap}
-use Rattle.desk_base.specs.declared.answers.Command.{Command as Asked}
-use Rattle.desk_base.specs.declared.answers.Answer.{Answer}
+use Rattle.desk_base.specs.declared.asked.answers.Command.{Command as Asked}
+use Rattle.desk_base.specs.declared.asked.answers.Answer.{Answer}
 use Rattle.desk_wire.specs.declared.rules.Request.{Request}
 use Rattle.desk_wire.specs.declared.responses.Response.{Response}
 use Rattle.desk_batch.specs.declared.requests.Routed.{Routed}
@@ -15,7 +15,7 @@ pub turn_of : {S U : Type 0} (f : S → U) (T : S → Asked → Answer → S →
     (sim : (s : S) (c : Asked) (a : Answer) (t : S) → T s c a t → T' (f s) c a (f t)) (o : Routed) (s : S) (q : Request) (r : Response) (t : S)
     → TurnOf T o s q r t → TurnOf T' o (f s) q r (f t)
 turn_of f T T' sim (Refused why) s q r t x = (x.0, ap f x.1)
-turn_of f T T' sim (Command command) s q r t x = (x.0, sim s command x.0 t x.1, x.2)
+turn_of f T T' sim (Command command) s q r t x = (x.0, sim s command x.0 t x.1, x.2, x.3)
 
 -- and each stop
 pub stop_of : {S U : Type 0} (f : S → U) (T : S → Asked → Answer → S → Type 0) (T' : U → Asked → Answer → U → Type 0)

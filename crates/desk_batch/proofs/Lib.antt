@@ -8,6 +8,7 @@ mod TurnLemmas
 -- Conversations.
 pub mod CarriedTurns
 mod Statuses
-pub mod EmptySound
+pub mod StoreSound
 pub mod Revisions
 pub mod ShownLemmas
+pub mod ReadPages

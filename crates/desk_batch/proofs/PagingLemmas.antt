@@ -6,8 +6,8 @@ use Rattle.std.proofs.lemmas.Fmt.{decimal_injective}
 use Rattle.std.proofs.lemmas.List.{append_cancel_left, get_or-map, length-map, map-append, take_more}
 use Rattle.std.proofs.lemmas.List.Elements.{All-from_recursion, All-append, All-head, All-push, All-tail}
 use Rattle.std.proofs.lemmas.List.Sums.{sum_by-cons}
-use Rattle.desk_base.specs.declared.memory.NoMemory.{NoMemory}
-use Rattle.desk_base.specs.declared.searches.Cursor.{Cursor}
+use Rattle.desk_base.specs.declared.values.memory.NoMemory.{NoMemory}
+use Rattle.desk_base.specs.declared.search.results.Cursor.{Cursor}
 use Rattle.desk_time.specs.Limits.{first_minute, end_of_minutes}
 use Rattle.desk_time.specs.Moments.{IsMomentText, moment_text, clock_text}
 use Rattle.desk_time.specs.Dates.{date_text}

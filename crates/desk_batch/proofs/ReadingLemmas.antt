@@ -4,10 +4,10 @@ use Rattle.std.specs.List.{slice_split, join_with_byte}
 use Rattle.std.proofs.lemmas.Fmt.{decimal_injective}
 use Rattle.std.proofs.lemmas.List.{append_cancel_left, append_cancel_right, append-nil}
 use Rattle.std.proofs.lemmas.List.Elements.{All-head, All-tail}
-use Rattle.desk_base.specs.declared.searches.Cursor.{Cursor}
-use Rattle.desk_base.specs.declared.answers.Command.{Command as Asked}
-use Rattle.desk_base.specs.declared.answers.Command.TheVariants.{Ask}
-use Rattle.desk_base.specs.declared.answers.Query.{Query}
+use Rattle.desk_base.specs.declared.search.results.Cursor.{Cursor}
+use Rattle.desk_base.specs.declared.asked.answers.Command.{Command as Asked}
+use Rattle.desk_base.specs.declared.asked.answers.Command.TheVariants.{Ask}
+use Rattle.desk_base.specs.declared.asked.answers.Query.{Query}
 use Rattle.desk_time.specs.Limits.{IsMoment}
 use Rattle.desk_time.specs.Moments.{IsMomentText, moment_text}
 use Rattle.desk_time.proofs.MomentTexts.{moment_text-is, moment_text-one_moment}

@@ -1,21 +1,21 @@
 -- Along turns the revision never falls, and rises exactly with each accepted change; so where it is the same, the tables are.
 use Rattle.std.proofs.Common.{◌≡◌, ℕ, ◌+◌, ◌≤◌, ◌⊎◌, List, [], ◌∷◌, Option, Some, None, inl, inr, refl, sym, ap, subst, ◌∙◌, arith}
-use Rattle.desk_base.specs.declared.tables.Tables.{Tables}
-use Rattle.desk_base.specs.declared.booking_rows.Receipt.{Receipt}
-use Rattle.desk_base.specs.declared.changes.Act.{Act}
-use Rattle.desk_base.specs.declared.changes.Call.{Call}
-use Rattle.desk_base.specs.declared.changes.Change.{Change as Changes}
-use Rattle.desk_base.specs.declared.changes.Entry.{Entry}
-use Rattle.desk_base.specs.declared.answers.Answer.{Answer}
-use Rattle.desk_base.specs.declared.answers.Command.{Command}
-use Rattle.desk_base.specs.declared.answers.Command.TheVariants.{Ask, Change}
-use Rattle.desk_base.specs.declared.answers.Reply.TheVariants as reply
-use Rattle.desk_base.specs.declared.answers.Outcome.{Outcome}
-use Rattle.desk_base.specs.declared.answers.Outcome.TheVariants.{Done, Repeated, Refused, NoMemory}
-use Rattle.desk_base.specs.Acts.{after_act, change_of}
-use Rattle.desk_base.specs.Changes.{with_change}
-use Rattle.desk_base.specs.Sound.{IsSound}
-use Rattle.desk_base.specs.Steps.{kept_receipt, IsJudged, IsChanged, IsStep}
+use Rattle.desk_base.specs.declared.rows.tables.Tables.{Tables}
+use Rattle.desk_base.specs.declared.rows.bookings.Receipt.{Receipt}
+use Rattle.desk_base.specs.declared.asked.acts.Act.{Act}
+use Rattle.desk_base.specs.declared.asked.acts.Call.{Call}
+use Rattle.desk_base.specs.declared.asked.acts.Change.{Change as Changes}
+use Rattle.desk_base.specs.declared.asked.acts.Entry.{Entry}
+use Rattle.desk_base.specs.declared.asked.answers.Answer.{Answer}
+use Rattle.desk_base.specs.declared.asked.answers.Command.{Command}
+use Rattle.desk_base.specs.declared.asked.answers.Command.TheVariants.{Ask, Change}
+use Rattle.desk_base.specs.declared.asked.answers.Reply.TheVariants as reply
+use Rattle.desk_base.specs.declared.asked.answers.Outcome.{Outcome}
+use Rattle.desk_base.specs.declared.asked.answers.Outcome.TheVariants.{Done, Repeated, Refused, NoMemory}
+use Rattle.desk_base.specs.asked.Acts.{after_act, change_of}
+use Rattle.desk_base.specs.changes.Changes.{with_change}
+use Rattle.desk_base.specs.rules.Sound.{IsSound}
+use Rattle.desk_base.specs.asked.Steps.{kept_receipt, IsJudged, IsChanged, IsStep}
 use Rattle.desk_core.specs.Books.{BookState}
 use Rattle.desk_batch.specs.Shown.{Taken, Told, IsTold, AreTold, HasStood}
 use Rattle.desk_batch.specs.Turns.{OwnTurn}

@@ -1,12 +1,12 @@
 -- What a request asks for is served by the step.
 use Rattle.std.proofs.Common.{◌≡◌, ℕ, List, Result, Ok, Err, inl, inr, refl, sym, subst}
 use Rattle.serde_json.specs.Data.{Data}
-use Rattle.desk_base.specs.declared.tables.AnyRow.{AnyRow}
-use Rattle.desk_base.specs.declared.tables.AnyRow.TheVariants.{Zone, Calendar, Work, Unit, Site, Resource}
-use Rattle.desk_base.specs.declared.changes.Act.{Act}
-use Rattle.desk_base.specs.declared.changes.Act.TheVariants.{Put, PutGroup, BookGroup, CancelGroup}
-use Rattle.desk_base.specs.declared.answers.Command.{Command}
-use Rattle.desk_base.specs.declared.answers.Command.TheVariants.{Change, Ask}
+use Rattle.desk_base.specs.declared.rows.tables.AnyRow.{AnyRow}
+use Rattle.desk_base.specs.declared.rows.tables.AnyRow.TheVariants.{Zone, Calendar, Work, Unit, Site, Resource}
+use Rattle.desk_base.specs.declared.asked.acts.Act.{Act}
+use Rattle.desk_base.specs.declared.asked.acts.Act.TheVariants.{Put, PutGroup, BookGroup, CancelGroup}
+use Rattle.desk_base.specs.declared.asked.answers.Command.{Command}
+use Rattle.desk_base.specs.declared.asked.answers.Command.TheVariants.{Change, Ask}
 use Rattle.desk_core.specs.Built.{CanBePut, IsServed, IsBuilt}
 use Rattle.desk_json.specs.Asked.{IsAskedRow, IsAskedAct, IsAsked as IsListed}
 use Rattle.desk_json.specs.Bodies.{parsed, change_in}

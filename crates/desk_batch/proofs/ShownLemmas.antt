@@ -1,37 +1,41 @@
 -- The pages that a conversation shows of one search over one revision join.
 use Rattle.std.proofs.Common.{◌≡◌, ◌==◌, ℕ, ◌≤◌, Bool, true, false, ◌&&◌, nat_le, List, [], ◌∷◌, map, length, Option, Some, None, inl, inr, refl, sym, ap, ◌∙◌, subst, arith, Contains}
 use Rattle.std.proofs.lemmas.Bool.Decides.{nat_tests}
-use Rattle.std.specs.Prelude.{find, if◌then◌else◌, MatchOption}
+use Rattle.std.specs.Prelude.{find, if◌then◌else◌, MatchOption, All}
 use Rattle.std.specs.Option.{option_or}
-use Rattle.desk_base.specs.declared.tables.Tables.{Tables}
-use Rattle.desk_base.specs.declared.group_rows.GroupRow.{GroupRow}
-use Rattle.desk_base.specs.declared.searches.Page.{Page}
-use Rattle.desk_base.specs.declared.searches.Options.{Options}
-use Rattle.desk_base.specs.Groups.{group_of}
-use Rattle.desk_base.specs.Limits.{page_limit}
-use Rattle.desk_base.specs.Fields.{is_within_range}
-use Rattle.desk_base.specs.Listing.{IsSoundGroup, IsListing, shown_rows}
-use Rattle.desk_base.specs.Page.{ResumePoint, beginning, next_point, IsAskable, IsPage, AreResumed, Joins}
-use Rattle.desk_base.specs.Positions.{rows_among}
-use Rattle.desk_base.specs.declared.searches.Found.{Found}
-use Rattle.desk_base.specs.Sound.{IsSound}
-use Rattle.desk_base.specs.Steps.{IsTurn, IsAnswer, point_of, refused_limit, refused_per}
-use Rattle.desk_base.specs.declared.changes.Entry.{Entry}
-use Rattle.desk_base.specs.declared.searches.Cursor.{Cursor}
-use Rattle.desk_base.specs.declared.rules.Field.TheVariants.{Limit, Per}
-use Rattle.desk_base.specs.declared.refusals.Refusal.{Refusal}
-use Rattle.desk_base.specs.declared.refusals.Refusal.TheVariants.{BadField}
-use Rattle.desk_base.specs.declared.answers.Command.TheVariants.{Ask}
-use Rattle.desk_base.specs.declared.answers.Query.TheVariants.{Rows as RowsOf}
-use Rattle.desk_base.specs.declared.answers.Outcome.{Outcome}
-use Rattle.desk_base.specs.declared.answers.Outcome.TheVariants.{Done, NoMemory}
-use Rattle.desk_base.specs.declared.answers.Reply.TheVariants.{Rows}
-use Rattle.desk_base.proofs.Members.{contains_from_in}
-use Rattle.desk_base.proofs.Pages.{shown_listing, lives_from, pages_join}
-use Rattle.desk_base.proofs.Passed.{page_passes}
-use Rattle.desk_base.proofs.Shapes.{sound_group}
-use Rattle.desk_base.proofs.Sounds.{well_formed}
-use Rattle.desk_base.proofs.Tests.{find_cases, and_left, and_right}
+use Rattle.desk_base.specs.declared.rows.tables.Tables.{Tables}
+use Rattle.desk_base.specs.declared.rows.groups.GroupRow.{GroupRow}
+use Rattle.desk_base.specs.declared.search.results.Page.{Page}
+use Rattle.desk_base.specs.declared.search.results.Options.{Options}
+use Rattle.desk_base.specs.asked.Groups.{group_of}
+use Rattle.desk_base.specs.rules.Limits.{page_limit, leaf_limit, revision_limit}
+use Rattle.desk_base.specs.rows.Keys.{id_key}
+use Rattle.desk_base.specs.declared.rows.tables.Table.TheVariants.{Booking}
+use Rattle.desk_base.specs.declared.asked.rules.TableRule.TheVariants.{Count}
+use Rattle.desk_base.specs.rules.Fields.{is_within_range}
+use Rattle.desk_base.specs.search.Listing.{IsSoundGroup, IsListing, shown_rows}
+use Rattle.desk_base.specs.search.Page.{ResumePoint, beginning, next_point, IsAskable, IsPage, AreResumed, Joins}
+use Rattle.desk_base.specs.search.Positions.{rows_among}
+use Rattle.desk_base.specs.declared.search.results.Found.{Found}
+use Rattle.desk_base.specs.rules.Sound.{IsSound}
+use Rattle.desk_base.specs.asked.Steps.{IsTurn, IsAnswer, point_of, refused_limit, refused_per}
+use Rattle.desk_base.specs.declared.asked.acts.Entry.{Entry}
+use Rattle.desk_base.specs.declared.search.results.Cursor.{Cursor}
+use Rattle.desk_base.specs.declared.asked.rules.Field.TheVariants.{Limit, Per}
+use Rattle.desk_base.specs.declared.asked.refusals.Refusal.{Refusal}
+use Rattle.desk_base.specs.declared.asked.refusals.Refusal.TheVariants.{BadField}
+use Rattle.desk_base.specs.declared.asked.answers.Command.TheVariants.{Ask}
+use Rattle.desk_base.specs.declared.asked.answers.Query.TheVariants.{Rows as RowsOf}
+use Rattle.desk_base.specs.declared.asked.answers.Outcome.{Outcome}
+use Rattle.desk_base.specs.declared.asked.answers.Outcome.TheVariants.{Done, NoMemory}
+use Rattle.desk_base.specs.declared.asked.answers.Reply.TheVariants.{Rows}
+use Rattle.desk_base.proofs.lists.Members.{contains_from_in}
+use Rattle.desk_base.proofs.searched.Pages.{shown_listing, lives_from, pages_join}
+use Rattle.desk_base.proofs.searched.Passed.{page_passes}
+use Rattle.desk_base.proofs.meaning.Shapes.{sound_group, few_leaves}
+use Rattle.desk_base.proofs.puts.ActPuts.{counts_kept}
+use Rattle.desk_base.proofs.tables.Sounds.{well_formed}
+use Rattle.desk_base.proofs.lists.Tests.{find_cases, and_left, and_right}
 use Rattle.desk_core.specs.Books.{BookState}
 use Rattle.desk_wire.specs.declared.rules.Request.{Request}
 use Rattle.desk_wire.specs.declared.responses.Response.{Response}
@@ -45,14 +49,16 @@ use Rattle.desk_batch.specs.Runs.{JoinsPages}
 use Rattle.desk_talk.specs.Sessions.{Exchange, Turns}
 use Rattle.desk_batch.specs.Turns.{opened_over, OwnTurn}
 use Rattle.desk_batch.specs.Words.{tables_of}
-use Rattle.desk_batch.proofs.EmptySound.{store_sound}
+use Rattle.desk_json.specs.AnsweredPages.{ShowsPlaces, HasPlaces, IsAnswered}
+use Rattle.desk_batch.proofs.ReadPages.{AllPlaced, begins_short, pages_answered}
+use Rattle.desk_batch.proofs.StoreSound.{store_sound}
 use Rattle.desk_batch.proofs.Revisions.{same_tables, sound_stood}
 
 -- ---- each exchange is told by its turn
 
 told_one : (s u : BookState) (routed : Routed) (q : Request) (r : Response) → Reads q routed → TurnOf OwnTurn routed s q r u → (turn : Option Taken) × IsTold s turn q r u
 told_one s u (Refused why) q r reads x = (None, (why, reads, x.0, x.1))
-told_one s u (Command command) q r reads x = (Some (record { command = command; answer = x.0 }), (reads, x.1, x.2))
+told_one s u (Command command) q r reads x = (Some (record { command = command; answer = x.0 }), (reads, x.1, x.2, x.3))
 
 told_of : (s : BookState) (xs : List Exchange) (last : BookState) → Turns (Exchanged OwnTurn) s xs last → (told : List Told) × (map exchange_of told ≡ xs) × AreTold s told
 told_of s [] last h = ([], refl, tt)
@@ -126,6 +132,17 @@ module _ (t : Tables) (search : Search) (g : GroupRow) (there : group_of t searc
       stands b (y ∷ ys) = inl refl
   resumed s point (x ∷ xs) (page ∷ pages) told (inr shows) same = resumed x.after point xs (page ∷ pages) told.1 shows (λ c at. same c (inr at))
 
+  -- what is shown could be written
+  placed : (s : BookState) (point : ResumePoint) (xs : List Told) (pages : List Page) → AreTold s xs → ShowPages search t.revision point xs pages → AllPlaced pages
+  placed s point xs [] told shows = tt
+  placed s point [] (page ∷ pages) told shows = absurd shows
+  placed s point (x ∷ xs) (page ∷ pages) told (inl shows) = (one_placed s x.after point page x.turn x.request x.response told.0 shows.0, placed x.after (next_point page) xs pages told.1 shows.1)
+    where
+      one_placed : (s u : BookState) (point : ResumePoint) (page : Page) (turn : Option Taken) (q : Request) (r : Response) → IsTold s turn q r u → ShowsTo search t.revision point page turn → HasPlaces page
+      one_placed s u point page None q r told shows = absurd shows
+      one_placed s u point page (Some x) q r told shows = subst ShowsPlaces shows.answered told.3
+  placed s point (x ∷ xs) (page ∷ pages) told (inr shows) = placed x.after point xs (page ∷ pages) told.1 shows
+
 -- ---- so they join
 
 contains_group : (id : ℕ) (groups : List GroupRow) (g : GroupRow) → find (λ (x : GroupRow). x.id == id) groups ≡ Some g → Contains groups g
@@ -146,10 +163,17 @@ listing_of : (t : Tables) (g : GroupRow) (o : Options) (limit : ℕ) (page : Pag
 listing_of t g o limit page sound is = (shown_rows o.per (rows_among (length g.leaves) is.0), shown_listing t g o is.0 sound (lives_from t g o is.0 is.1))
 
 joined : (t : Tables) (g : GroupRow) (o : Options) (page : Page) (pages : List Page) → IsSoundGroup g → AreResumed t g o beginning (page ∷ pages)
-    → ArePassing t g o beginning (page ∷ pages) × ((listing : List Found) × IsListing t g o listing × Joins t g o (page ∷ pages) listing)
-joined t g o page pages sound resumed =
-    let listing = listing_of t g o resumed.0.0 page sound resumed.0.2 in
-    (passing t g o beginning (page ∷ pages) resumed, (listing.0, listing.1, pages_join t g o (page ∷ pages) listing.0 sound listing.1 resumed))
+    → length g.leaves ≤ leaf_limit → t.revision ≤ revision_limit → AllPlaced (page ∷ pages)
+    → ArePassing t g o beginning (page ∷ pages) × All (IsAnswered t.revision) (page ∷ pages) × ((listing : List Found) × IsListing t g o listing × Joins t g o (page ∷ pages) listing)
+joined t g o page pages sound resumed few low placed =
+    let listing = listing_of t g o resumed.0.0 page sound resumed.0.2 in (
+      passing t g o beginning (page ∷ pages) resumed,
+      pages_answered t g o beginning (page ∷ pages) sound few low begins_short resumed placed,
+      (listing.0, listing.1, pages_join t g o (page ∷ pages) listing.0 sound listing.1 resumed),
+    )
+
+revision_small : (t : Tables) → IsSound t → t.revision ≤ revision_limit
+revision_small t s = let h = (counts_kept t (s.keeps Count (id_key Booking 0) refl)).0 in grind (arith, nat_tests)
 
 pub joins_over : (t : Tables) → IsSound t → (xs : List Exchange) (last : BookState) → Turns (Exchanged OwnTurn) (opened_over t) xs last → JoinsPages t xs
 joins_over t sound xs last h =
@@ -158,9 +182,13 @@ joins_over t sound xs last h =
       told.1,
       told.2,
       λ b search g page pages stood there shows.
-          joined b.tables g search.options page pages
-          (sound_group b.tables g (well_formed b.tables (sound_stood (opened_over t) told.0 b sound told.2 stood)) (contains_group search.group b.tables.groups g there))
-          (resumed b.tables search g there (opened_over t) beginning told.0 (page ∷ pages) told.2 shows (λ c at. same_tables (opened_over t) told.0 c b told.2 at stood)),
+          let kept = sound_stood (opened_over t) told.0 b sound told.2 stood in
+          let formed = well_formed b.tables kept in
+          let here = contains_group search.group b.tables.groups g there in
+          joined b.tables g search.options page pages (sound_group b.tables g formed here)
+          (resumed b.tables search g there (opened_over t) beginning told.0 (page ∷ pages) told.2 shows (λ c at. same_tables (opened_over t) told.0 c b told.2 at stood))
+          (few_leaves b.tables g formed here) (revision_small b.tables kept)
+          (placed b.tables search g there (opened_over t) beginning told.0 (page ∷ pages) told.2 shows),
     )
 
 pub joins_pages : (store : Store) (xs : List Exchange) (last : BookState) → Turns (Exchanged OwnTurn) (opened_over (tables_of store)) xs last → JoinsPages (tables_of store) xs

@@ -9,10 +9,10 @@ use Rattle.std.proofs.lemmas.Grind.{common_steps}
 use Rattle.std.proofs.lemmas.List.Quantifiers.{position-Some}
 use Rattle.std.proofs.lemmas.List.Sums.{fails_before_first}
 use Rattle.std.proofs.lemmas.List.Splits.{slice_split_none, slice_split_at}
-use Rattle.desk_base.specs.declared.memory.NoMemory.{NoMemory}
-use Rattle.desk_base.specs.declared.answers.Command.{Command}
-use Rattle.desk_base.specs.declared.answers.Query.{Query}
-use Rattle.desk_base.specs.declared.answers.Query.TheVariants.{Revision}
+use Rattle.desk_base.specs.declared.values.memory.NoMemory.{NoMemory}
+use Rattle.desk_base.specs.declared.asked.answers.Command.{Command}
+use Rattle.desk_base.specs.declared.asked.answers.Query.{Query}
+use Rattle.desk_base.specs.declared.asked.answers.Query.TheVariants.{Revision}
 use Rattle.desk_wire.specs.declared.rules.Request.{Request}
 use Rattle.desk_json.specs.Decimals.{IsId, ReadsId}
 use Rattle.desk_batch.specs.Paging.{IsPart, asked_by, nothing_asked, query_text, AreParts}

@@ -1,20 +1,21 @@
 -- What a request and its response have to do with a turn.
 use Rattle.std.specs.Prelude.{◌≡◌, ◌⊎◌, Option, Some, None, Result, Ok, Err}
-use Rattle.desk_base.specs.declared.answers.Command.{Command as Asked}
-use Rattle.desk_base.specs.declared.answers.Answer.{Answer}
+use Rattle.desk_base.specs.declared.asked.answers.Command.{Command as Asked}
+use Rattle.desk_base.specs.declared.asked.answers.Answer.{Answer}
 use Rattle.desk_wire.specs.declared.rules.Request.{Request}
 use Rattle.desk_wire.specs.declared.responses.Response.{Response}
 use Rattle.desk_batch.specs.declared.requests.Routed.{Routed}
 use Rattle.desk_batch.specs.declared.requests.Routed.TheVariants.{Command, Refused}
 use Rattle.desk_talk.specs.declared.ends.Stop.{Stop}
 use Rattle.desk_talk.specs.declared.ends.Stop.TheVariants as stop
+use Rattle.desk_json.specs.AnsweredPages.{ShowsPlaces}
 use Rattle.desk_batch.specs.Requesting.{Reads}
 use Rattle.desk_batch.specs.Replies.{answer_response, refusal_response}
 
--- a command has one turn, whose answer is the response; a refusal is the response, and has no turn
+-- a command has one turn, whose answer is the response, with places that could be written; a refusal is the response, and has no turn
 abbrev pub TurnOf : {S : Type 0} (Turn : S → Asked → Answer → S → Type 0) → Routed → S → Request → Response → S → Type 0
 TurnOf Turn (Refused why) s q r t = (r ≡ refusal_response q why) × (t ≡ s)
-TurnOf Turn (Command command) s q r t = (a : Answer) × Turn s command a t × (r ≡ answer_response q a)
+TurnOf Turn (Command command) s q r t = (a : Answer) × Turn s command a t × (r ≡ answer_response q a) × ShowsPlaces a.outcome
 
 -- the request is read, and its response given
 abbrev pub Exchanged : {S : Type 0} (Turn : S → Asked → Answer → S → Type 0) → S → Request → Response → S → Type 0
@@ -22,7 +23,7 @@ Exchanged Turn s q r t = (routed : Routed) × Reads q routed × TurnOf Turn rout
 
 -- an answer is the response, or there is none, for want of memory or where no turn could be drawn
 abbrev pub IsResponse : Request → Option Answer → Result Response Stop → Type 0
-IsResponse q (Some a) (Ok r) = r ≡ answer_response q a
+IsResponse q (Some a) (Ok r) = (r ≡ answer_response q a) × ShowsPlaces a.outcome
 IsResponse q (Some a) (Err why) = why ≡ stop.NoMemory
 IsResponse q None (Ok r) = ⊥
 IsResponse q None (Err why) = why ≡ stop.Spent

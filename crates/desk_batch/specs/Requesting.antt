@@ -1,9 +1,9 @@
 -- Which requests ask for what, and how every other request is refused.
 use Rattle.std.specs.Prelude.{◌≡◌, ◌⊎◌, ℕ, List, ◌++◌, codes, decimal, unwrap_or, Ok}
-use Rattle.desk_base.specs.declared.answers.Command.{Command as Asked}
-use Rattle.desk_base.specs.declared.answers.Command.TheVariants.{Ask}
-use Rattle.desk_base.specs.declared.answers.Query.{Query}
-use Rattle.desk_base.specs.declared.answers.Query.TheVariants.{Rows, Revision}
+use Rattle.desk_base.specs.declared.asked.answers.Command.{Command as Asked}
+use Rattle.desk_base.specs.declared.asked.answers.Command.TheVariants.{Ask}
+use Rattle.desk_base.specs.declared.asked.answers.Query.{Query}
+use Rattle.desk_base.specs.declared.asked.answers.Query.TheVariants.{Rows, Revision}
 use Rattle.desk_wire.specs.declared.rules.Request.{Request}
 use Rattle.desk_json.specs.Decimals.{IsId}
 use Rattle.desk_batch.specs.Paging.{asked_by, query_text, AreParts}

@@ -2,7 +2,7 @@
 use Rattle.std.specs.Prelude.{◌≡◌, ℕ, ◌⊎◌, List, map, Option}
 use Rattle.std.specs.Io.KnownBytes.{Appends}
 use Rattle.desk_io.specs.Moves.{AppendsFront}
-use Rattle.desk_base.specs.declared.tables.Tables.{Tables}
+use Rattle.desk_base.specs.declared.rows.tables.Tables.{Tables}
 use Rattle.desk_core.specs.Books.{BookState}
 use Rattle.desk_talk.specs.Sessions.{Exchange, Session}
 use Rattle.desk_talk.specs.declared.ends.SessionEnd.{SessionEnd}

@@ -1,26 +1,27 @@
 -- The pages of a search among the turns of a conversation.
-use Rattle.std.specs.Prelude.{◌≡◌, ℕ, ◌⊎◌, Bool, false, List, [], ◌∷◌, Option, Some, None, ⊤}
-use Rattle.desk_base.specs.declared.group_rows.GroupRow.{GroupRow}
-use Rattle.desk_base.specs.declared.searches.Cursor.{Cursor}
-use Rattle.desk_base.specs.declared.searches.Found.{Found}
-use Rattle.desk_base.specs.declared.searches.Options.{Options}
-use Rattle.desk_base.specs.declared.searches.Page.{Page}
-use Rattle.desk_base.specs.declared.answers.Answer.{Answer}
-use Rattle.desk_base.specs.declared.answers.Command.{Command as Asked}
-use Rattle.desk_base.specs.declared.answers.Command.TheVariants.{Ask}
-use Rattle.desk_base.specs.declared.answers.Query.TheVariants.{Rows as RowsOf}
-use Rattle.desk_base.specs.declared.answers.Outcome.TheVariants.{Done}
-use Rattle.desk_base.specs.declared.answers.Reply.TheVariants.{Rows}
-use Rattle.desk_base.specs.Groups.{group_of}
-use Rattle.desk_base.specs.declared.tables.Tables.{Tables}
-use Rattle.desk_base.specs.Listing.{IsListing}
-use Rattle.desk_base.specs.Page.{ResumePoint, beginning, next_point, PassesOne, Joins}
-use Rattle.desk_base.specs.Steps.{point_of}
+use Rattle.std.specs.Prelude.{◌≡◌, ℕ, ◌⊎◌, Bool, false, List, [], ◌∷◌, All, Option, Some, None, ⊤}
+use Rattle.desk_base.specs.declared.rows.groups.GroupRow.{GroupRow}
+use Rattle.desk_base.specs.declared.search.results.Cursor.{Cursor}
+use Rattle.desk_base.specs.declared.search.results.Found.{Found}
+use Rattle.desk_base.specs.declared.search.results.Options.{Options}
+use Rattle.desk_base.specs.declared.search.results.Page.{Page}
+use Rattle.desk_base.specs.declared.asked.answers.Answer.{Answer}
+use Rattle.desk_base.specs.declared.asked.answers.Command.{Command as Asked}
+use Rattle.desk_base.specs.declared.asked.answers.Command.TheVariants.{Ask}
+use Rattle.desk_base.specs.declared.asked.answers.Query.TheVariants.{Rows as RowsOf}
+use Rattle.desk_base.specs.declared.asked.answers.Outcome.TheVariants.{Done}
+use Rattle.desk_base.specs.declared.asked.answers.Reply.TheVariants.{Rows}
+use Rattle.desk_base.specs.asked.Groups.{group_of}
+use Rattle.desk_base.specs.declared.rows.tables.Tables.{Tables}
+use Rattle.desk_base.specs.search.Listing.{IsListing}
+use Rattle.desk_base.specs.search.Page.{ResumePoint, beginning, next_point, PassesOne, Joins}
+use Rattle.desk_base.specs.asked.Steps.{point_of}
 use Rattle.desk_core.specs.Books.{BookState}
 use Rattle.desk_wire.specs.declared.rules.Request.{Request}
 use Rattle.desk_wire.specs.declared.responses.Response.{Response}
 use Rattle.desk_batch.specs.declared.requests.Routed.TheVariants.{Command, Refused}
 use Rattle.desk_batch.specs.declared.requests.WebRefusal.{WebRefusal}
+use Rattle.desk_json.specs.AnsweredPages.{ShowsPlaces, IsAnswered}
 use Rattle.desk_batch.specs.Requesting.{Reads}
 use Rattle.desk_batch.specs.Replies.{answer_response, refusal_response}
 use Rattle.desk_talk.specs.Sessions.{Exchange}
@@ -42,10 +43,10 @@ pub record Told : Type 0 where
 abbrev pub exchange_of : Told → Exchange
 exchange_of x = record { request = x.request; response = x.response }
 
--- a request that is refused has no turn, and one that is a command has this turn, whose answer is the response
+-- a request that is refused has no turn, and one that is a command has this turn, whose answer is the response, with places that could be written
 abbrev pub IsTold : BookState → Option Taken → Request → Response → BookState → Type 0
 IsTold s None q r t = (why : WebRefusal) × Reads q (Refused why) × (r ≡ refusal_response q why) × (t ≡ s)
-IsTold s (Some x) q r t = Reads q (Command x.command) × OwnTurn s x.command x.answer t × (r ≡ answer_response q x.answer)
+IsTold s (Some x) q r t = Reads q (Command x.command) × OwnTurn s x.command x.answer t × (r ≡ answer_response q x.answer) × ShowsPlaces x.answer.outcome
 
 -- each of them is told so, from one book to the next
 abbrev pub AreTold : BookState → List Told → Type 0
@@ -90,10 +91,12 @@ ArePassing t g o point [] = ⊤
 ArePassing t g o point (page ∷ pages) = (page.end ≡ false → PassesOne t g o point page) × ArePassing t g o (next_point page) pages
 
 -- whatever pages of a search they show over the revision of a book that has stood, from the beginning of the search on, there is a listing over the
--- tables of that book whose first rows they are together, and all of them where the last page is at the end; and each page goes on
+-- tables of that book whose first rows they are together, and all of them where the last page is at the end; each page goes on; and each is in the
+-- ranges of pages that are answered, so that its text is that of no other page
 abbrev pub PagesJoin : BookState → List Told → Type 0
 PagesJoin s xs =
     (b : BookState) (search : Search) (g : GroupRow) (page : Page) (pages : List Page)
     → HasStood s xs b → group_of b.tables search.group ≡ Some g → ShowPages search b.tables.revision beginning xs (page ∷ pages)
     → ArePassing b.tables g search.options beginning (page ∷ pages)
+    × All (IsAnswered b.tables.revision) (page ∷ pages)
     × ((listing : List Found) × IsListing b.tables g search.options listing × Joins b.tables g search.options (page ∷ pages) listing)

@@ -1,9 +1,9 @@
 -- The turns of a program that has its book to itself.
 use Rattle.std.specs.Prelude.{◌≡◌, []}
-use Rattle.desk_base.specs.declared.tables.Tables.{Tables}
-use Rattle.desk_base.specs.declared.answers.Answer.{Answer}
-use Rattle.desk_base.specs.declared.answers.Command.{Command}
-use Rattle.desk_base.specs.Steps.{IsTurn}
+use Rattle.desk_base.specs.declared.rows.tables.Tables.{Tables}
+use Rattle.desk_base.specs.declared.asked.answers.Answer.{Answer}
+use Rattle.desk_base.specs.declared.asked.answers.Command.{Command}
+use Rattle.desk_base.specs.asked.Steps.{IsTurn}
 use Rattle.desk_core.specs.Books.{BookState, IsKept}
 
 -- a book over these tables, as it is opened

@@ -1,7 +1,7 @@
 -- The words that a program is started with.
 use Rattle.std.specs.Prelude.{◌≡◌, ℕ, List, [], ◌∷◌, codes}
-use Rattle.desk_base.specs.declared.tables.Tables.{Tables}
-use Rattle.desk_base.specs.Trial.{no_rows, trial}
+use Rattle.desk_base.specs.declared.rows.tables.Tables.{Tables}
+use Rattle.desk_base.specs.rows.Trial.{no_rows, trial}
 use Rattle.desk_batch.specs.declared.words.Store.{Store}
 use Rattle.desk_batch.specs.declared.words.Store.TheVariants.{Trial, Empty}
 

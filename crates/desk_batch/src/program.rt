@@ -4,7 +4,7 @@ ghost use Rattle.desk_io.specs.Counts.{Rose};
 ghost use Rattle.desk_wire.specs.Requests.{Requests, clean};
 ghost use Rattle.desk_wire.specs.declared.rules.Request.{Request};
 ghost use Rattle.desk_batch.specs.Exchanges.{Exchanged, IsStopped};
-ghost use Rattle.desk_base.specs.Sound.{IsSound};
+ghost use Rattle.desk_base.specs.rules.Sound.{IsSound};
 ghost use Rattle.desk_batch.specs.Runs.{status_of, HoldsOver, JoinsPages, SendsUsage};
 ghost use Rattle.desk_talk.specs.Sessions.{Session};
 ghost use Rattle.desk_batch.specs.Turns.{opened_over, OwnTurn, NeverSpent};

@@ -1,5 +1,6 @@
 //! The responses to requests.
-ghost use Rattle.std.specs.Prelude.{◌≡◌, IfOk};
+ghost use Rattle.std.specs.Prelude.{◌≡◌, IfOk, OnOk};
+ghost use Rattle.desk_json.specs.AnsweredPages.{ShowsPlaces};
 ghost use Rattle.desk_batch.specs.Replies.{json_response, refusal_status, outcome_status, answer_response, web_status, web_text, refusal_response};
 
 use crate::requests::WebRefusal;
@@ -51,9 +52,11 @@ pub fn answer_response(
     request: &Request,
     answer: &Answer,
 ) -> Result<Response, NoMemory>
-    ensures { IfOk result (λ response. response ≡ answer_response request.now answer.now) }
+    ensures response { IfOk result (λ response. response ≡ answer_response request.now answer.now) }
+    ensures places { OnOk result (ShowsPlaces answer.now.outcome) }
 {
-    let body = answer_text(alloc, answer)?;
+    let text = answer_text(alloc, answer)?;
+    let body = Bytes::from_vec(text.into_vec());
     Ok(json_response(request, outcome_status(&answer.outcome), body))
 }
 

@@ -1,11 +1,12 @@
 //! Turns over a book: a request that reads as a command has one, and every other its refusal.
-ghost use Rattle.std.specs.Prelude.{◌≡◌, List, IfOk, IfErr, IfSome, IfNone, ⊤};
+ghost use Rattle.std.specs.Prelude.{◌≡◌, List, IfOk, IfErr, OnOk, IfSome, IfNone, ⊤};
 ghost use Rattle.desk_wire.specs.declared.rules.Request.{Request};
 ghost use Rattle.desk_wire.specs.declared.responses.Response.{Response};
-ghost use Rattle.desk_base.specs.declared.answers.Answer.{Answer};
-ghost use Rattle.desk_base.specs.declared.answers.Command.{Command};
+ghost use Rattle.desk_base.specs.declared.asked.answers.Answer.{Answer};
+ghost use Rattle.desk_base.specs.declared.asked.answers.Command.{Command};
 ghost use Rattle.desk_core.specs.Built.{IsBuilt};
 ghost use Rattle.desk_talk.specs.declared.ends.Stop.{Stop};
+ghost use Rattle.desk_json.specs.AnsweredPages.{ShowsPlaces};
 ghost use Rattle.desk_talk.specs.Sessions.{Exchange};
 ghost use Rattle.desk_batch.specs.Exchanges.{Exchanged, IsResponse, IsStopped};
 ghost use Rattle.desk_batch.specs.Requesting.{Reads};
@@ -102,6 +103,7 @@ fn refuse(alloc: Global, request: &Request, refusal: &WebRefusal) -> Result<Resp
 /// The response of an answer, or why there is none.
 fn answer_with(alloc: Global, request: &Request, answer: &Answer) -> Result<Response, Stop>
     ensures response { IfOk result (λ r. r ≡ answer_response request.now answer.now) }
+    ensures places { OnOk result (ShowsPlaces answer.now.outcome) }
     ensures stop { IfErr result (λ stop. stop ≡ Stop.NoMemory) }
 {
     match answer_response(alloc, request, answer) {

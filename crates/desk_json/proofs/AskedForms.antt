@@ -4,13 +4,13 @@ use Rattle.std.specs.Bool.{⊤}
 use Rattle.std.proofs.lemmas.Bool.{leb-true}
 use Rattle.serde_json.specs.Data.{Data, Num, unsigned, negative, float}
 use Rattle.serde_json.specs.Find.{get, as_number, as_array, at as item_at}
-use Rattle.desk_base.specs.declared.rules.Field.{Field}
-use Rattle.desk_base.specs.declared.rules.Field.TheVariants as field
-use Rattle.desk_base.specs.declared.group_rows.Leaf.{Leaf}
-use Rattle.desk_base.specs.declared.tables.AnyRow.TheVariants as row
-use Rattle.desk_base.specs.declared.changes.Act.TheVariants as act
-use Rattle.desk_base.specs.declared.answers.Command.{Command}
-use Rattle.desk_base.specs.declared.answers.Command.TheVariants as command
+use Rattle.desk_base.specs.declared.asked.rules.Field.{Field}
+use Rattle.desk_base.specs.declared.asked.rules.Field.TheVariants as field
+use Rattle.desk_base.specs.declared.rows.groups.Leaf.{Leaf}
+use Rattle.desk_base.specs.declared.rows.tables.AnyRow.TheVariants as row
+use Rattle.desk_base.specs.declared.asked.acts.Act.TheVariants as act
+use Rattle.desk_base.specs.declared.asked.answers.Command.{Command}
+use Rattle.desk_base.specs.declared.asked.answers.Command.TheVariants as command
 use Rattle.desk_json.specs.declared.trees.Tree.{Tree}
 use Rattle.desk_json.specs.declared.acts.ActName.{ActName}
 use Rattle.desk_json.specs.declared.acts.ActName.TheVariants.{PutZone, PutCalendar, PutWork, PutUnit, PutSite, PutResource, PutGroup, BookGroup, CancelGroup}

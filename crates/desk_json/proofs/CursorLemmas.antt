@@ -4,8 +4,8 @@ use Rattle.std.specs.List.{slice_split}
 use Rattle.std.proofs.lemmas.List.{append_assoc, append-nil, get_or-map, length-map}
 use Rattle.std.proofs.lemmas.List.Elements.{All-nil, All-cons, All-head, All-tail}
 use Rattle.std.proofs.lemmas.List.Splits.{slice_split_none, slice_split_at}
-use Rattle.desk_base.specs.Limits.{revision_limit}
-use Rattle.desk_base.specs.declared.searches.Cursor.{Cursor}
+use Rattle.desk_base.specs.rules.Limits.{revision_limit}
+use Rattle.desk_base.specs.declared.search.results.Cursor.{Cursor}
 use Rattle.desk_json.specs.Cursors.{pick_text, picks_text, shown_text, head_text, cursor_text}
 use Rattle.desk_json.specs.declared.cursor_reading.CursorError.{CursorError}
 use Rattle.desk_json.specs.declared.cursor_reading.CursorError.TheVariants.{BadCursor, NoMemory}

@@ -4,7 +4,7 @@ use Rattle.std.specs.List.{slice_split}
 use Rattle.std.proofs.lemmas.List.Elements.{All-nil, All-head, All-tail}
 use Rattle.std.proofs.lemmas.Fmt.{decimal_injective, digits_decimal, decimal_nonempty}
 use Rattle.std.proofs.lemmas.Str.Parse.{not_in_digits}
-use Rattle.desk_base.specs.declared.searches.Cursor.{Cursor}
+use Rattle.desk_base.specs.declared.search.results.Cursor.{Cursor}
 use Rattle.desk_json.specs.Cursors.{pick_text, further_pick, picks_text, head_text, cursor_text}
 use Rattle.desk_json.specs.CursorReading.{IsPick, IsShown, IsCursor, cursor_pieces, shown_pieces, pieces_of_head}
 use Rattle.desk_json.proofs.DecimalLemmas.{own}

@@ -5,7 +5,7 @@ use Rattle.std.specs.Str.Parse.{AllDigits, digits_value, ParsesUnsigned}
 use Rattle.std.proofs.lemmas.Str.{IsUtf8-from_ascii}
 use Rattle.std.proofs.lemmas.Str.Parse.{IsNumeralModel, numerals_by_value, tells_digits, parse_plain, not_in_digits}
 use Rattle.std.proofs.lemmas.Fmt.{decimal_injective, decimal-digits_value, parse-decimal, digits_decimal, first_decimal, decimal_nonempty, length-decimal-le_succ, IsAscii-decimal}
-use Rattle.desk_base.specs.Limits.{id_limit}
+use Rattle.desk_base.specs.rules.Limits.{id_limit}
 use Rattle.desk_json.specs.Decimals.{IsPadded, IsId, ReadsNumber, ReadsId}
 
 pub own : IsNumeralModel (AllDigits 10) (digits_value 10)

@@ -3,18 +3,18 @@ use Rattle.std.proofs.Common.{◌≡◌, ℕ, Bool, List, [], ◌∷◌, map, tr
 use Rattle.serde_json.specs.Written.{has_float, items_have_float}
 use Rattle.serde_json.specs.View.{items_of}
 use Rattle.std.specs.List.{range_with_len}
-use Rattle.desk_base.specs.declared.searches.Found.{Found}
-use Rattle.desk_base.specs.declared.searches.Position.{Position}
-use Rattle.desk_base.specs.declared.booking_rows.Receipt.{Receipt}
-use Rattle.desk_base.specs.declared.booking_rows.Receipt.TheVariants.{Put, Removed, Booked, Cancelled}
-use Rattle.desk_base.specs.declared.refusals.Shown.{Shown}
-use Rattle.desk_base.specs.declared.refusals.Shown.TheVariants as shown
-use Rattle.desk_base.specs.declared.refusals.Refusal.{Refusal}
-use Rattle.desk_base.specs.declared.refusals.Refusal.TheVariants as refusal
-use Rattle.desk_base.specs.declared.answers.Answer.{Answer}
-use Rattle.desk_base.specs.declared.answers.Outcome.{Outcome}
-use Rattle.desk_base.specs.declared.answers.Outcome.TheVariants as outcome
-use Rattle.desk_base.specs.declared.answers.Reply.TheVariants as reply
+use Rattle.desk_base.specs.declared.search.results.Found.{Found}
+use Rattle.desk_base.specs.declared.search.results.Position.{Position}
+use Rattle.desk_base.specs.declared.rows.bookings.Receipt.{Receipt}
+use Rattle.desk_base.specs.declared.rows.bookings.Receipt.TheVariants.{Put, Removed, Booked, Cancelled}
+use Rattle.desk_base.specs.declared.asked.refusals.Shown.{Shown}
+use Rattle.desk_base.specs.declared.asked.refusals.Shown.TheVariants as shown
+use Rattle.desk_base.specs.declared.asked.refusals.Refusal.{Refusal}
+use Rattle.desk_base.specs.declared.asked.refusals.Refusal.TheVariants as refusal
+use Rattle.desk_base.specs.declared.asked.answers.Answer.{Answer}
+use Rattle.desk_base.specs.declared.asked.answers.Outcome.{Outcome}
+use Rattle.desk_base.specs.declared.asked.answers.Outcome.TheVariants as outcome
+use Rattle.desk_base.specs.declared.asked.answers.Reply.TheVariants as reply
 use Rattle.desk_json.specs.Values.{whole_number, number_or_null}
 use Rattle.desk_json.specs.Pages.{row_data, next_data}
 use Rattle.desk_json.specs.Receipts.{receipt_data}

@@ -4,7 +4,7 @@ use Rattle.std.specs.Str.{is_utf8}
 use Rattle.std.proofs.lemmas.Str.{IsUtf8-from_is_utf8, is_utf8-from_IsUtf8}
 use Rattle.serde_json.specs.Data.{Data}
 use Rattle.serde_json.specs.Read.{read}
-use Rattle.desk_base.specs.declared.rules.Field.TheVariants as field
+use Rattle.desk_base.specs.declared.asked.rules.Field.TheVariants as field
 use Rattle.desk_json.specs.declared.faults.BodyRule.TheVariants.{Syntax}
 use Rattle.desk_json.specs.Faults.{fault}
 use Rattle.desk_json.specs.Reading.{or_fault}

@@ -1,9 +1,13 @@
 -- Which pages are answered, and what the text of a page tells of it.
-use Rattle.std.specs.Prelude.{ℕ, ◌≤◌, All, Option, Some, None, ⊤}
-use Rattle.desk_base.specs.Limits.{revision_limit}
-use Rattle.desk_base.specs.declared.searches.Found.{Found}
-use Rattle.desk_base.specs.declared.searches.Position.{Position}
-use Rattle.desk_base.specs.declared.searches.Page.{Page}
+use Rattle.std.specs.Prelude.{ℕ, ◌≤◌, All, Option, Some, None, MatchOption, ⊤}
+use Rattle.desk_base.specs.rules.Limits.{revision_limit}
+use Rattle.desk_base.specs.declared.search.results.Found.{Found}
+use Rattle.desk_base.specs.declared.search.results.Position.{Position}
+use Rattle.desk_base.specs.declared.search.results.Page.{Page}
+use Rattle.desk_base.specs.declared.asked.answers.Outcome.{Outcome}
+use Rattle.desk_base.specs.declared.asked.answers.Outcome.TheVariants.{Done}
+use Rattle.desk_base.specs.declared.asked.answers.Reply.TheVariants.{Rows}
+use Rattle.desk_base.specs.search.Positions.{found_of}
 use Rattle.desk_time.specs.Limits.{IsMoment}
 use Rattle.desk_json.specs.CursorReading.{IsPick, IsCursor}
 
@@ -16,6 +20,16 @@ pub record IsRow (row : Found) : Type 0 where
 abbrev pub IsNext : ℕ → Option ℕ → Option Position → Type 0
 IsNext revision shown (Some position) = IsCursor (record { revision = revision; shown = shown; position = position })
 IsNext revision shown None = ⊤
+
+-- what is written of a page: rows that start in the horizon, and a place behind them that does, where there is one
+pub record HasPlaces (page : Page) : Type 0 where
+  pub rows : All IsRow page.rows
+  pub next : MatchOption page.next ⊤ (λ position. IsRow (found_of position))
+
+-- so it is of a page that answers a question; any other answer has no places
+abbrev pub ShowsPlaces : Outcome → Type 0
+ShowsPlaces (Done (Rows page)) = HasPlaces page
+ShowsPlaces _ = ⊤
 
 -- a page as it is answered over a revision
 pub record IsAnswered (revision : ℕ) (page : Page) : Type 0 where

@@ -2,11 +2,11 @@
 use Rattle.std.specs.Prelude.{ℕ, List, true, false, codes}
 use Rattle.serde_json.specs.Data.{Data, string, object, no_members, member}
 use Rattle.serde_json.specs.Written.{compact_text}
-use Rattle.desk_base.specs.declared.answers.Answer.{Answer}
-use Rattle.desk_base.specs.declared.answers.Outcome.{Outcome}
-use Rattle.desk_base.specs.declared.answers.Outcome.TheVariants as outcome
-use Rattle.desk_base.specs.declared.answers.Reply.{Reply}
-use Rattle.desk_base.specs.declared.answers.Reply.TheVariants as reply
+use Rattle.desk_base.specs.declared.asked.answers.Answer.{Answer}
+use Rattle.desk_base.specs.declared.asked.answers.Outcome.{Outcome}
+use Rattle.desk_base.specs.declared.asked.answers.Outcome.TheVariants as outcome
+use Rattle.desk_base.specs.declared.asked.answers.Reply.{Reply}
+use Rattle.desk_base.specs.declared.asked.answers.Reply.TheVariants as reply
 use Rattle.desk_json.specs.Values.{whole_number}
 use Rattle.desk_json.specs.Pages.{page_data}
 use Rattle.desk_json.specs.Receipts.{receipt_data}

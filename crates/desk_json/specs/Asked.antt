@@ -1,14 +1,14 @@
 -- Which changes a body can ask for by now.
 use Rattle.std.specs.Prelude.{◌≡◌, ℕ, ℤ, pos, List, [], ◌∷◌, ⊤}
-use Rattle.desk_base.specs.declared.resource_rows.Kind.{Kind}
-use Rattle.desk_base.specs.declared.group_rows.GroupRow.{GroupRow}
-use Rattle.desk_base.specs.declared.tables.AnyRow.{AnyRow}
-use Rattle.desk_base.specs.declared.tables.AnyRow.TheVariants.{Zone, Calendar, Work, Unit, Site, Resource}
-use Rattle.desk_base.specs.declared.changes.Act.{Act}
-use Rattle.desk_base.specs.declared.changes.Act.TheVariants.{Put, PutGroup, BookGroup, CancelGroup}
-use Rattle.desk_base.specs.declared.answers.Command.{Command}
-use Rattle.desk_base.specs.declared.answers.Command.TheVariants.{Change}
-use Rattle.desk_base.specs.Load.{plain, sort_of_kind}
+use Rattle.desk_base.specs.declared.rows.resources.Kind.{Kind}
+use Rattle.desk_base.specs.declared.rows.groups.GroupRow.{GroupRow}
+use Rattle.desk_base.specs.declared.rows.tables.AnyRow.{AnyRow}
+use Rattle.desk_base.specs.declared.rows.tables.AnyRow.TheVariants.{Zone, Calendar, Work, Unit, Site, Resource}
+use Rattle.desk_base.specs.declared.asked.acts.Act.{Act}
+use Rattle.desk_base.specs.declared.asked.acts.Act.TheVariants.{Put, PutGroup, BookGroup, CancelGroup}
+use Rattle.desk_base.specs.declared.asked.answers.Command.{Command}
+use Rattle.desk_base.specs.declared.asked.answers.Command.TheVariants.{Change}
+use Rattle.desk_base.specs.meaning.Load.{plain, sort_of_kind}
 use Rattle.desk_json.specs.TreeReading.{lone_node, plain_leaf}
 
 -- shifts are one shift, by 0 minutes

@@ -3,14 +3,14 @@ use Rattle.std.specs.Prelude.{ℕ, List, [], ◌∷◌, ◌++◌, map, codes, Op
 use Rattle.std.specs.Str.{is_utf8}
 use Rattle.serde_json.specs.Data.{Data}
 use Rattle.serde_json.specs.Read.{read}
-use Rattle.desk_base.specs.declared.rules.Field.{Field}
-use Rattle.desk_base.specs.declared.rules.Field.TheVariants as field
-use Rattle.desk_base.specs.declared.tables.AnyRow.TheVariants as row
-use Rattle.desk_base.specs.declared.changes.Act.{Act}
-use Rattle.desk_base.specs.declared.changes.Act.TheVariants as act
-use Rattle.desk_base.specs.declared.changes.Call.{Call}
-use Rattle.desk_base.specs.declared.answers.Command.{Command}
-use Rattle.desk_base.specs.declared.answers.Command.TheVariants as command
+use Rattle.desk_base.specs.declared.asked.rules.Field.{Field}
+use Rattle.desk_base.specs.declared.asked.rules.Field.TheVariants as field
+use Rattle.desk_base.specs.declared.rows.tables.AnyRow.TheVariants as row
+use Rattle.desk_base.specs.declared.asked.acts.Act.{Act}
+use Rattle.desk_base.specs.declared.asked.acts.Act.TheVariants as act
+use Rattle.desk_base.specs.declared.asked.acts.Call.{Call}
+use Rattle.desk_base.specs.declared.asked.answers.Command.{Command}
+use Rattle.desk_base.specs.declared.asked.answers.Command.TheVariants as command
 use Rattle.desk_json.specs.declared.acts.ActName.{ActName}
 use Rattle.desk_json.specs.declared.acts.ActName.TheVariants.{PutZone, PutCalendar, PutWork, PutUnit, PutSite, PutResource, PutGroup, BookGroup, CancelGroup}
 use Rattle.desk_json.specs.declared.faults.BodyError.{BodyError}

@@ -1,7 +1,7 @@
 -- Which texts are cursors: a text is read as the one cursor whose text it is.
 use Rattle.std.specs.Prelude.{◌≡◌, ◌≢◌, ℕ, ◌≤◌, List, [], ◌∷◌, map, length, decimal, All, Option, Some, None, Result, Ok, Err}
-use Rattle.desk_base.specs.Limits.{first_minute, end_of_minutes, revision_limit, leaf_limit, page_limit}
-use Rattle.desk_base.specs.declared.searches.Cursor.{Cursor}
+use Rattle.desk_base.specs.rules.Limits.{first_minute, end_of_minutes, revision_limit, leaf_limit, page_limit}
+use Rattle.desk_base.specs.declared.search.results.Cursor.{Cursor}
 use Rattle.desk_json.specs.declared.cursor_reading.CursorError.{CursorError}
 use Rattle.desk_json.specs.declared.cursor_reading.CursorError.TheVariants.{BadCursor, NoMemory}
 use Rattle.desk_json.specs.Cursors.{pick_text, head_text}

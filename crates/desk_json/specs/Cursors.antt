@@ -1,7 +1,7 @@
 -- The text of a cursor: `REVISION.START.PICK` or `REVISION_SHOWN.START.PICK`, and further picks behind points.
 use Rattle.std.specs.Prelude.{ℕ, List, ◌++◌, codes, decimal, Option, Some, None}
 use Rattle.std.specs.List.{flat_map}
-use Rattle.desk_base.specs.declared.searches.Cursor.{Cursor}
+use Rattle.desk_base.specs.declared.search.results.Cursor.{Cursor}
 
 -- a pick is the resource in decimal, or `-` for a leaf that is left out
 abbrev pub pick_text : Option ℕ → List ℕ

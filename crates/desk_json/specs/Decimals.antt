@@ -1,6 +1,6 @@
 -- Numbers read from their decimals.
 use Rattle.std.specs.Prelude.{◌≡◌, ◌≢◌, ℕ, ◌<◌, ◌≤◌, ◌^◌, ◌⊎◌, List, length, slice_index, decimal, Option, Some, None}
-use Rattle.desk_base.specs.Limits.{id_limit}
+use Rattle.desk_base.specs.rules.Limits.{id_limit}
 
 -- a sign in front, or a zero before further digits
 abbrev pub IsPadded : List ℕ → Type 0

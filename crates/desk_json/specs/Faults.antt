@@ -1,6 +1,6 @@
 -- What reading a body gives: a value, or the first fault that is found.
 use Rattle.std.specs.Prelude.{◌≡◌, ◌⊎◌, Result, Ok, Err}
-use Rattle.desk_base.specs.declared.rules.Field.{Field}
+use Rattle.desk_base.specs.declared.asked.rules.Field.{Field}
 use Rattle.desk_json.specs.declared.faults.BodyRule.{BodyRule}
 use Rattle.desk_json.specs.declared.faults.BodyError.{BodyError}
 use Rattle.desk_json.specs.declared.faults.BodyError.TheVariants.{Bad, NoMemory}

@@ -3,7 +3,7 @@ use Rattle.std.specs.Prelude.{ℕ, Bool, true, ◌&&◌, List, [], ◌∷◌, �
 use Rattle.std.specs.List.{list_any}
 use Rattle.serde_json.specs.Data.{Data, null, boolean, number, string, array, object, Members, no_members, member}
 use Rattle.serde_json.specs.Find.{get}
-use Rattle.desk_base.specs.declared.rules.Field.{Field}
+use Rattle.desk_base.specs.declared.asked.rules.Field.{Field}
 use Rattle.desk_json.specs.declared.faults.BodyError.{BodyError}
 use Rattle.desk_json.specs.declared.faults.BodyRule.TheVariants.{Missing}
 use Rattle.desk_json.specs.Faults.{fault, ◌>>=◌}

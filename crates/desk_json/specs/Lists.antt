@@ -2,7 +2,7 @@
 use Rattle.std.specs.Prelude.{ℕ, ℤ, pos, List, [], ◌∷◌, Option, Some, None, Result, Ok}
 use Rattle.serde_json.specs.Data.{Data, Items, no_items, item}
 use Rattle.serde_json.specs.Find.{as_array, at as item_at}
-use Rattle.desk_base.specs.declared.rules.Field.{Field}
+use Rattle.desk_base.specs.declared.asked.rules.Field.{Field}
 use Rattle.desk_json.specs.declared.faults.BodyError.{BodyError}
 use Rattle.desk_json.specs.declared.faults.BodyRule.TheVariants.{Sort, Range}
 use Rattle.desk_json.specs.Faults.{fault, ◌>>=◌}

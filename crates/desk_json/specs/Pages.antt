@@ -1,9 +1,9 @@
 -- The JSON of a page of rows.
 use Rattle.std.specs.Prelude.{ℕ, Bool, List, ◌∷◌, map, codes, Option, Some, None}
 use Rattle.serde_json.specs.Data.{Data, null, boolean, string, object, no_members, member}
-use Rattle.desk_base.specs.declared.searches.Found.{Found}
-use Rattle.desk_base.specs.declared.searches.Position.{Position}
-use Rattle.desk_base.specs.declared.searches.Page.{Page}
+use Rattle.desk_base.specs.declared.search.results.Found.{Found}
+use Rattle.desk_base.specs.declared.search.results.Position.{Position}
+use Rattle.desk_base.specs.declared.search.results.Page.{Page}
 use Rattle.desk_json.specs.Values.{whole_number, number_or_null, moment_data, list_of}
 use Rattle.desk_json.specs.Cursors.{cursor_text}
 

@@ -2,10 +2,10 @@
 use Rattle.std.specs.Prelude.{ℕ, ◌&&◌, nat_le, List, [], ◌∷◌, bytes_eq, codes, Option, Some, None, Result, Ok, is_some, if◌then◌else◌}
 use Rattle.serde_json.specs.Data.{Data, Num, unsigned, negative, float}
 use Rattle.serde_json.specs.Find.{as_null, as_number, as_str}
-use Rattle.desk_base.specs.Limits.{id_limit, serial_limit}
-use Rattle.desk_base.specs.declared.rules.Field.{Field}
-use Rattle.desk_base.specs.declared.resource_rows.Kind.{Kind}
-use Rattle.desk_base.specs.declared.resource_rows.Kind.TheVariants as kind
+use Rattle.desk_base.specs.rules.Limits.{id_limit, serial_limit}
+use Rattle.desk_base.specs.declared.asked.rules.Field.{Field}
+use Rattle.desk_base.specs.declared.rows.resources.Kind.{Kind}
+use Rattle.desk_base.specs.declared.rows.resources.Kind.TheVariants as kind
 use Rattle.desk_json.specs.declared.faults.BodyError.{BodyError}
 use Rattle.desk_json.specs.declared.faults.BodyRule.TheVariants.{Sort, Range, Moment}
 use Rattle.desk_json.specs.Faults.{fault, ◌>>=◌}

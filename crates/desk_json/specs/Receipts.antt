@@ -2,8 +2,8 @@
 use Rattle.std.specs.Prelude.{ℕ, Bool, List, map, codes}
 use Rattle.std.specs.List.{range_with_len}
 use Rattle.serde_json.specs.Data.{Data, boolean, string, object, no_members, member}
-use Rattle.desk_base.specs.declared.booking_rows.Receipt.{Receipt}
-use Rattle.desk_base.specs.declared.booking_rows.Receipt.TheVariants.{Put, Removed, Booked, Cancelled}
+use Rattle.desk_base.specs.declared.rows.bookings.Receipt.{Receipt}
+use Rattle.desk_base.specs.declared.rows.bookings.Receipt.TheVariants.{Put, Removed, Booked, Cancelled}
 use Rattle.desk_json.specs.Values.{whole_number, list_of}
 
 -- so many numbers of bookings, from the first on

@@ -1,16 +1,16 @@
 -- The JSON of a refusal: its name, the revision, and the values that show it.
 use Rattle.std.specs.Prelude.{ℕ, codes}
 use Rattle.serde_json.specs.Data.{Data, null, string, object, no_members, member}
-use Rattle.desk_base.specs.declared.tables.Key.{Key}
-use Rattle.desk_base.specs.declared.tables.Table.{Table}
-use Rattle.desk_base.specs.declared.rules.Field.{Field}
-use Rattle.desk_base.specs.declared.rules.LeafRule.{LeafRule}
-use Rattle.desk_base.specs.declared.rules.TreeRule.{TreeRule}
-use Rattle.desk_base.specs.declared.refusals.Clash.{Clash}
-use Rattle.desk_base.specs.declared.refusals.Shown.{Shown}
-use Rattle.desk_base.specs.declared.refusals.Shown.TheVariants as shown
-use Rattle.desk_base.specs.declared.refusals.Refusal.{Refusal}
-use Rattle.desk_base.specs.declared.refusals.Refusal.TheVariants as refusal
+use Rattle.desk_base.specs.declared.rows.tables.Key.{Key}
+use Rattle.desk_base.specs.declared.rows.tables.Table.{Table}
+use Rattle.desk_base.specs.declared.asked.rules.Field.{Field}
+use Rattle.desk_base.specs.declared.asked.rules.LeafRule.{LeafRule}
+use Rattle.desk_base.specs.declared.asked.rules.TreeRule.{TreeRule}
+use Rattle.desk_base.specs.declared.asked.refusals.Clash.{Clash}
+use Rattle.desk_base.specs.declared.asked.refusals.Shown.{Shown}
+use Rattle.desk_base.specs.declared.asked.refusals.Shown.TheVariants as shown
+use Rattle.desk_base.specs.declared.asked.refusals.Refusal.{Refusal}
+use Rattle.desk_base.specs.declared.asked.refusals.Refusal.TheVariants as refusal
 use Rattle.desk_json.specs.Words.{table_name, field_name, leaf_rule_name, tree_rule_name}
 use Rattle.desk_json.specs.Values.{whole_number, key_data, moment_data}
 

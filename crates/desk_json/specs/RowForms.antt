@@ -1,12 +1,12 @@
 -- The forms of rows.
 use Rattle.std.specs.Prelude.{ℕ, List}
-use Rattle.desk_base.specs.declared.calendar_rows.ZoneRow.{ZoneRow}
-use Rattle.desk_base.specs.declared.calendar_rows.CalendarRow.{CalendarRow}
-use Rattle.desk_base.specs.declared.calendar_rows.WorkRow.{WorkRow}
-use Rattle.desk_base.specs.declared.resource_rows.NamedRow.{NamedRow}
-use Rattle.desk_base.specs.declared.resource_rows.ResourceRow.{ResourceRow}
-use Rattle.desk_base.specs.declared.group_rows.GroupRow.{GroupRow}
-use Rattle.desk_base.specs.declared.rules.Field.TheVariants as field
+use Rattle.desk_base.specs.declared.rows.calendars.ZoneRow.{ZoneRow}
+use Rattle.desk_base.specs.declared.rows.calendars.CalendarRow.{CalendarRow}
+use Rattle.desk_base.specs.declared.rows.calendars.WorkRow.{WorkRow}
+use Rattle.desk_base.specs.declared.rows.resources.NamedRow.{NamedRow}
+use Rattle.desk_base.specs.declared.rows.resources.ResourceRow.{ResourceRow}
+use Rattle.desk_base.specs.declared.rows.groups.GroupRow.{GroupRow}
+use Rattle.desk_base.specs.declared.asked.rules.Field.TheVariants as field
 use Rattle.desk_json.specs.Reading.{greatest_u8, greatest_u16, whole_in, u32_in, id_in, id_or_null_in, text_in, moment_in, kind_in}
 use Rattle.desk_json.specs.Lists.{shifts_in}
 use Rattle.desk_json.specs.TreeReading.{tree_in}

@@ -2,11 +2,11 @@
 use Rattle.std.specs.Prelude.{ℕ, Bool, ◌||◌, List, [], ◌∷◌, codes, None, Result, Ok, is_some, if◌then◌else◌, ⊤}
 use Rattle.serde_json.specs.Data.{Data}
 use Rattle.serde_json.specs.Find.{get, as_object}
-use Rattle.desk_base.specs.declared.rules.Field.{Field}
-use Rattle.desk_base.specs.declared.group_rows.Node.{Node}
-use Rattle.desk_base.specs.declared.group_rows.Leaf.{Leaf}
-use Rattle.desk_base.specs.declared.group_rows.NodeKind.TheVariants.{Leaf as LeafNode}
-use Rattle.desk_base.specs.declared.group_rows.Same.TheVariants.{None as NoSame}
+use Rattle.desk_base.specs.declared.asked.rules.Field.{Field}
+use Rattle.desk_base.specs.declared.rows.groups.Node.{Node}
+use Rattle.desk_base.specs.declared.rows.groups.Leaf.{Leaf}
+use Rattle.desk_base.specs.declared.rows.groups.NodeKind.TheVariants.{Leaf as LeafNode}
+use Rattle.desk_base.specs.declared.rows.groups.Same.TheVariants.{None as NoSame}
 use Rattle.desk_json.specs.declared.trees.Tree.{Tree}
 use Rattle.desk_json.specs.declared.faults.BodyError.{BodyError}
 use Rattle.desk_json.specs.declared.faults.BodyRule.{BodyRule}

@@ -2,7 +2,7 @@
 use Rattle.std.specs.Prelude.{ℕ, List, [], ◌∷◌, Option, Some, None}
 use Rattle.serde_json.specs.Data.{Data, null, number, unsigned, string, array}
 use Rattle.serde_json.specs.View.{items_of}
-use Rattle.desk_base.specs.declared.tables.Key.{Key}
+use Rattle.desk_base.specs.declared.rows.tables.Key.{Key}
 use Rattle.desk_time.specs.Moments.{moment_text}
 
 -- a whole number

@@ -1,13 +1,13 @@
 -- The names that stand in answers: of tables, of fields and of rules.
 use Rattle.std.specs.Prelude.{ℕ, List, codes}
-use Rattle.desk_base.specs.declared.tables.Table.{Table}
-use Rattle.desk_base.specs.declared.tables.Table.TheVariants.{Zone, Calendar, Work, Break, Day, Off, Unit, Site, Role, Characteristic, Territory, Resource, HasRole, HasCharacteristic, HasTerritory, Member, Group, Booking, Caller, BookingNumbers}
-use Rattle.desk_base.specs.declared.rules.Field.{Field}
-use Rattle.desk_base.specs.declared.rules.Field.TheVariants as field
-use Rattle.desk_base.specs.declared.rules.LeafRule.{LeafRule}
-use Rattle.desk_base.specs.declared.rules.LeafRule.TheVariants as leaf_rule
-use Rattle.desk_base.specs.declared.rules.TreeRule.{TreeRule}
-use Rattle.desk_base.specs.declared.rules.TreeRule.TheVariants as tree_rule
+use Rattle.desk_base.specs.declared.rows.tables.Table.{Table}
+use Rattle.desk_base.specs.declared.rows.tables.Table.TheVariants.{Zone, Calendar, Work, Break, Day, Off, Unit, Site, Role, Characteristic, Territory, Resource, HasRole, HasCharacteristic, HasTerritory, Member, Group, Booking, Caller, BookingNumbers}
+use Rattle.desk_base.specs.declared.asked.rules.Field.{Field}
+use Rattle.desk_base.specs.declared.asked.rules.Field.TheVariants as field
+use Rattle.desk_base.specs.declared.asked.rules.LeafRule.{LeafRule}
+use Rattle.desk_base.specs.declared.asked.rules.LeafRule.TheVariants as leaf_rule
+use Rattle.desk_base.specs.declared.asked.rules.TreeRule.{TreeRule}
+use Rattle.desk_base.specs.declared.asked.rules.TreeRule.TheVariants as tree_rule
 
 -- the name of a table
 abbrev pub table_name : Table → List ℕ

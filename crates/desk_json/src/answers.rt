@@ -1,13 +1,14 @@
 //! The JSON text of an answer.
-ghost use Rattle.std.specs.Prelude.{◌≡◌, IfOk};
+ghost use Rattle.std.specs.Prelude.{◌≡◌, IfOk, OnOk};
 ghost use Rattle.serde_json.specs.View.{view};
+ghost use Rattle.desk_base.specs.declared.asked.answers.Outcome.TheVariants.{Done};
+ghost use Rattle.desk_json.specs.AnsweredPages.{ShowsPlaces};
 ghost use Rattle.desk_json.specs.Answers.{revision_data, reply_data, error_data, answer_data, answer_text};
 
 use crate::pages::page_value;
 use crate::receipts::receipt_value;
 use crate::refusals::refusal_value;
-use desk_base::{Answer, NoMemory, Outcome, Reply};
-use desk_io::Bytes;
+use desk_base::{Answer, Bytes, NoMemory, Outcome, Reply};
 use serde_json::{Value, json};
 use std::alloc::{AllocError, Global};
 
@@ -24,7 +25,8 @@ fn error_value(alloc: Global, name: &str) -> Result<Value, AllocError>
 }
 
 fn reply_value(alloc: Global, revision: u64, reply: &Reply) -> Result<Value, NoMemory>
-    ensures { IfOk result (λ value. view value ≡ reply_data revision reply.now) }
+    ensures value { IfOk result (λ value. view value ≡ reply_data revision reply.now) }
+    ensures places { OnOk result (ShowsPlaces (Done reply.now)) }
 {
     match reply {
         Reply::Change(receipt) => Ok(receipt_value(alloc, false, revision, receipt)?),
@@ -34,7 +36,8 @@ fn reply_value(alloc: Global, revision: u64, reply: &Reply) -> Result<Value, NoM
 }
 
 fn answer_value(alloc: Global, answer: &Answer) -> Result<Value, NoMemory>
-    ensures { IfOk result (λ value. view value ≡ answer_data answer.now) }
+    ensures value { IfOk result (λ value. view value ≡ answer_data answer.now) }
+    ensures places { OnOk result (ShowsPlaces answer.now.outcome) }
 {
     let revision = answer.revision;
     match &answer.outcome {
@@ -45,10 +48,12 @@ fn answer_value(alloc: Global, answer: &Answer) -> Result<Value, NoMemory>
     }
 }
 
-/// The JSON text of an answer (RFC 8259): compact, with the names of each object in the order of their bytes.
+/// The JSON text of an answer (RFC 8259): compact, with the names of each object in the order of their bytes. Whatever page is
+/// written has its places in the horizon, and its picks are ids, since their types say so.
 #[tactic(auto, unfolding(crate::specs::Answers::answer_text))]
 pub fn answer_text(alloc: Global, answer: &Answer) -> Result<Bytes, NoMemory>
-    ensures { IfOk result (λ text. text ≡ answer_text answer.now) }
+    ensures text { IfOk result (λ text. text ≡ answer_text answer.now) }
+    ensures places { OnOk result (ShowsPlaces answer.now.outcome) }
 {
     let value = answer_value(alloc, answer)?;
     Ok(Bytes::from_vec(value.to_vec(alloc)?))

@@ -1,11 +1,12 @@
 //! A cursor read from its text.
 ghost use Rattle.std.specs.Prelude.{◌≡◌, ◌≤◌, map, decimal, All};
-ghost use Rattle.desk_base.specs.Limits.{revision_limit, page_limit};
+ghost use Rattle.desk_base.specs.rules.Limits.{revision_limit, page_limit};
 ghost use Rattle.desk_json.specs.Cursors.{pick_text, cursor_text};
 ghost use Rattle.desk_json.specs.CursorReading.{IsMoment, IsPick, ArePicks, IsCursor, IsHead, IsReading, cursor_pieces, text_of_head, pieces_of_head};
 
 use crate::decimals::{read_id, read_number};
 use crate::pieces::pieces_of;
+use desk_base::limits::{LEAF_LIMIT, PAGE_LIMIT, REVISION_LIMIT};
 use desk_base::{Cursor, Items, Minute, NoMemory, Picks, Position, ResourceId};
 use std::alloc::{AllocError, Global};
 
@@ -39,15 +40,6 @@ impl From<NoMemory> for CursorError {
     }
 }
 
-/// The greatest revision.
-const GREATEST_REVISION: u64 = 1_000_000_000_000_000;
-
-/// The rows of a page.
-const MOST_ROWS: u64 = 500;
-
-/// The leaves of a group.
-const MOST_LEAVES: usize = 24;
-
 fn read_up_to(text: &[u8], greatest: u64) -> Result<u64, CursorError>
     ensures { IsReading (λ n. n ≤ greatest) (λ n. decimal n) text.now result }
 {
@@ -64,13 +56,13 @@ fn read_up_to(text: &[u8], greatest: u64) -> Result<u64, CursorError>
 fn read_revision(text: &[u8]) -> Result<u64, CursorError>
     ensures { IsReading (λ n. n ≤ revision_limit) (λ n. decimal n) text.now result }
 {
-    read_up_to(text, GREATEST_REVISION)
+    read_up_to(text, REVISION_LIMIT)
 }
 
 fn read_shown(text: &[u8]) -> Result<u16, CursorError>
     ensures { IsReading (λ n. n ≤ page_limit) (λ n. decimal n) text.now result }
 {
-    let shown = read_up_to(text, MOST_ROWS)?;
+    let shown = read_up_to(text, u64::from(PAGE_LIMIT))?;
     Ok(shown as u16)
 }
 
@@ -133,7 +125,7 @@ fn read_each(alloc: Global, pieces: &[&[u8]]) -> Result<Picks, CursorError>
 fn read_picks(alloc: Global, pieces: &[&[u8]]) -> Result<Picks, CursorError>
     ensures { IsReading ArePicks (map pick_text) (map (λ piece. piece.now) pieces.now) result }
 {
-    if pieces.is_empty() || pieces.len() > MOST_LEAVES {
+    if pieces.is_empty() || pieces.len() > LEAF_LIMIT {
         return Err(CursorError::BadCursor);
     }
     read_each(alloc, pieces)

@@ -1,6 +1,9 @@
 //! The text of a cursor.
-ghost use Rattle.std.specs.Prelude.{◌≡◌, ◌++◌, decimal, string_bytes, IfOk, OnOk};
-ghost use Rattle.desk_base.specs.declared.searches.Cursor.{Cursor};
+ghost use Rattle.std.specs.Prelude.{◌≡◌, ◌++◌, decimal, string_bytes, All, IfOk, OnOk};
+ghost use Rattle.desk_base.specs.declared.search.results.Cursor.{Cursor};
+ghost use Rattle.desk_base.specs.search.Positions.{found_of};
+ghost use Rattle.desk_json.specs.AnsweredPages.{IsRow};
+ghost use Rattle.desk_json.specs.CursorReading.{IsPick};
 ghost use Rattle.desk_json.specs.Cursors.{pick_text, further_pick, picks_text, shown_text, head_text, cursor_text};
 
 use desk_base::{Cursor, NoMemory, Position, ResourceId};
@@ -14,7 +17,8 @@ fn push_number(text: &mut String, alloc: Global, number: u64) -> Result<(), Allo
 }
 
 fn push_pick(text: &mut String, alloc: Global, pick: Option<ResourceId>) -> Result<(), AllocError>
-    ensures { OnOk result (string_bytes text.new ≡ string_bytes text.old ++ pick_text pick) }
+    ensures text { OnOk result (string_bytes text.new ≡ string_bytes text.old ++ pick_text pick) }
+    ensures pick { OnOk result (IsPick pick) }
 {
     match pick {
         Some(resource) => push_number(text, alloc, resource.get() as u64),
@@ -27,7 +31,8 @@ fn push_further(
     alloc: Global,
     pick: Option<ResourceId>,
 ) -> Result<(), AllocError>
-    ensures { OnOk result (string_bytes text.new ≡ string_bytes text.old ++ further_pick pick) }
+    ensures text { OnOk result (string_bytes text.new ≡ string_bytes text.old ++ further_pick pick) }
+    ensures pick { OnOk result (IsPick pick) }
 {
     text.push_str(".")?;
     push_pick(text, alloc, pick)
@@ -38,7 +43,8 @@ fn push_picks(
     alloc: Global,
     picks: &[Option<ResourceId>],
 ) -> Result<(), AllocError>
-    ensures { OnOk result (string_bytes text.new ≡ string_bytes text.old ++ picks_text picks.now) }
+    ensures text { OnOk result (string_bytes text.new ≡ string_bytes text.old ++ picks_text picks.now) }
+    ensures picks { OnOk result (All IsPick picks.now) }
 {
     for pick in picks {
         push_further(text, alloc, *pick)?;
@@ -76,7 +82,8 @@ pub(crate) fn text_behind(
     shown: Option<u16>,
     position: &Position,
 ) -> Result<String, NoMemory>
-    ensures { IfOk result (λ text. string_bytes text ≡ cursor_text (record { revision = revision; shown = shown; position = position.now })) }
+    ensures text { IfOk result (λ text. string_bytes text ≡ cursor_text (record { revision = revision; shown = shown; position = position.now })) }
+    ensures place { OnOk result (IsRow (found_of position.now)) }
 {
     let mut text = String::new(alloc);
     push_head(&mut text, alloc, revision, shown)?;

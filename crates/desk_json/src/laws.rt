@@ -2,9 +2,9 @@
 ghost use Rattle.std.specs.Prelude.{◌≡◌, ◌≢◌, ◌⊎◌, ◌<◌, ◌==◌, ℕ, false, Ok, All};
 ghost use Rattle.serde_json.specs.Data.{Data};
 ghost use Rattle.serde_json.specs.Written.{compact_text};
-ghost use Rattle.desk_base.specs.declared.searches.Cursor.{Cursor};
-ghost use Rattle.desk_base.specs.declared.searches.Page.{Page};
-ghost use Rattle.desk_base.specs.declared.answers.Command.{Command};
+ghost use Rattle.desk_base.specs.declared.search.results.Cursor.{Cursor};
+ghost use Rattle.desk_base.specs.declared.search.results.Page.{Page};
+ghost use Rattle.desk_base.specs.declared.asked.answers.Command.{Command};
 ghost use Rattle.desk_json.specs.Cursors.{cursor_text};
 ghost use Rattle.desk_json.specs.CursorReading.{IsCursor};
 ghost use Rattle.desk_json.specs.Pages.{page_data};

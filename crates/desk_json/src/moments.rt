@@ -1,6 +1,7 @@
 //! Moments as JSON.
-ghost use Rattle.std.specs.Prelude.{◌≡◌, IfOk, string_bytes, IsAscii};
+ghost use Rattle.std.specs.Prelude.{◌≡◌, IfOk, OnOk, string_bytes, IsAscii};
 ghost use Rattle.serde_json.specs.View.{view};
+ghost use Rattle.desk_time.specs.Limits.{IsMoment};
 ghost use Rattle.desk_json.specs.Values.{moment_data};
 
 use desk_base::Minute;
@@ -17,7 +18,8 @@ fn text_of(alloc: Global, bytes: &[u8]) -> Result<String, AllocError>
 
 /// The text of a moment, as a JSON string.
 pub(crate) fn moment_value(alloc: Global, minute: Minute) -> Result<Value, AllocError>
-    ensures { IfOk result (λ value. view value ≡ moment_data minute) }
+    ensures value { IfOk result (λ value. view value ≡ moment_data minute) }
+    ensures moment { OnOk result (IsMoment minute) }
 {
     let bytes = moment_text(minute.get());
     Ok(Value::String(text_of(alloc, &bytes)?))

@@ -1,12 +1,12 @@
 -- The trial tables with a group of two leaves are sound.
 use Rattle.std.proofs.Common.{◌≡◌, refl, [], None}
-use Rattle.desk_base.specs.declared.changes.Act.TheVariants as act
-use Rattle.desk_base.specs.Acts.{after_act}
-use Rattle.desk_base.specs.Refusing.{early_refusal}
-use Rattle.desk_base.specs.Sound.{IsSound}
-use Rattle.desk_base.specs.Trial.{trial}
-use Rattle.desk_base.proofs.TrialSound.{trial_sound}
-use Rattle.desk_base.proofs.AcceptedPuts.{sound_put_group}
+use Rattle.desk_base.specs.declared.asked.acts.Act.TheVariants as act
+use Rattle.desk_base.specs.asked.Acts.{after_act}
+use Rattle.desk_base.specs.asked.Refusing.{early_refusal}
+use Rattle.desk_base.specs.rules.Sound.{IsSound}
+use Rattle.desk_base.specs.rows.Trial.{trial}
+use Rattle.desk_base.proofs.tables.TrialSound.{trial_sound}
+use Rattle.desk_base.proofs.puts.AcceptedPuts.{sound_put_group}
 use Rattle.tests_core.specs.Relays.{relay, twice, first_call}
 
 relay_not_refused : early_refusal trial [] first_call (act.PutGroup relay) ≡ None

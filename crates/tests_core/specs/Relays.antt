@@ -1,13 +1,13 @@
 -- Groups of two leaves, the second of which begins an hour later.
 use Rattle.std.specs.Prelude.{ℕ, [], ◌∷◌}
-use Rattle.desk_base.specs.declared.changes.Call.{Call}
-use Rattle.desk_base.specs.declared.group_rows.GroupRow.{GroupRow}
-use Rattle.desk_base.specs.declared.group_rows.Leaf.{Leaf as LeafFields}
-use Rattle.desk_base.specs.declared.group_rows.Node.{Node}
-use Rattle.desk_base.specs.declared.group_rows.NodeKind.{NodeKind}
-use Rattle.desk_base.specs.declared.group_rows.NodeKind.TheVariants.{All, Leaf}
-use Rattle.desk_base.specs.declared.group_rows.Same.TheVariants.{None as NoSame}
-use Rattle.desk_base.specs.Trial.{trial_group, plain_leaf}
+use Rattle.desk_base.specs.declared.asked.acts.Call.{Call}
+use Rattle.desk_base.specs.declared.rows.groups.GroupRow.{GroupRow}
+use Rattle.desk_base.specs.declared.rows.groups.Leaf.{Leaf as LeafFields}
+use Rattle.desk_base.specs.declared.rows.groups.Node.{Node}
+use Rattle.desk_base.specs.declared.rows.groups.NodeKind.{NodeKind}
+use Rattle.desk_base.specs.declared.rows.groups.NodeKind.TheVariants.{All, Leaf}
+use Rattle.desk_base.specs.declared.rows.groups.Same.TheVariants.{None as NoSame}
+use Rattle.desk_base.specs.rows.Trial.{trial_group, plain_leaf}
 
 -- a node without a part-of-same
 abbrev pub node : ℕ → NodeKind → Node

@@ -2,8 +2,6 @@
 #![tactic(auto)]
 
 #[cfg(test)]
-mod json;
-#[cfg(test)]
 mod relays;
 #[cfg(test)]
 mod steps;

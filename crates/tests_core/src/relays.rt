@@ -1,10 +1,10 @@
 //! Groups whose second leaf begins an hour later: their listings and pages, and what a booking of one comes to. Ann (1) works
 //! on Monday 2025-01-06 from 08:00 (minute 28,935,840) to 12:00, and Cyd (3) from 10:00.
 ghost use Rattle.std.specs.Prelude.{◌≡◌, ◌∷◌, [], IfOk};
-ghost use Rattle.desk_base.specs.Acts.{after_act, change_of};
-ghost use Rattle.desk_base.specs.Sound.{IsSound};
-ghost use Rattle.desk_base.specs.Trial.{trial};
-ghost use Rattle.desk_base.specs.declared.changes.Act.TheVariants.{PutGroup};
+ghost use Rattle.desk_base.specs.asked.Acts.{after_act, change_of};
+ghost use Rattle.desk_base.specs.rules.Sound.{IsSound};
+ghost use Rattle.desk_base.specs.rows.Trial.{trial};
+ghost use Rattle.desk_base.specs.declared.asked.acts.Act.TheVariants.{PutGroup};
 ghost use Rattle.desk_core.specs.Built.{IsBuilt};
 ghost use Rattle.tests_core.specs.Relays.{node, hour_of, both_of, relay, twice, first_call};
 
@@ -120,7 +120,7 @@ fn change_of(alloc: Global, group: GroupRow) -> Result<Change, NoMemory>
 }
 
 /// The trial tables after a change that puts a group.
-#[tactic(auto, unfolding(desk_base::specs::Acts::after_act))]
+#[tactic(auto, unfolding(desk_base::specs::asked::Acts::after_act))]
 fn with_group(alloc: Global, group: GroupRow) -> Result<Tables, NoMemory>
     ensures { IfOk result (λ t. t ≡ after_act trial first_call (PutGroup group)) }
 {

@@ -1,7 +1,7 @@
 //! Commands through `step`, one after another, and what they come to. The book is over the trial tables, and minute
 //! 28,935,840 is Monday 2025-01-06T08:00Z.
 ghost use Rattle.std.specs.Prelude.{IfOk};
-ghost use Rattle.desk_base.specs.Sound.{IsSound};
+ghost use Rattle.desk_base.specs.rules.Sound.{IsSound};
 ghost use Rattle.desk_core.specs.Built.{IsServed};
 
 mod asked;

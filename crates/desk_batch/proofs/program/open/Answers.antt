@@ -1,6 +1,6 @@
 use Rattle.std.proofs.Common.{sym, subst}
-use Rattle.desk_base.specs.Sound.{IsSound}
-use Rattle.desk_batch.proofs.EmptySound.{store_sound}
+use Rattle.desk_base.specs.rules.Sound.{IsSound}
+use Rattle.desk_batch.proofs.StoreSound.{store_sound}
 use Rattle.desk_batch.proofs.program.open.Goals as goal
 
 pub over-requires : goal.over-requires

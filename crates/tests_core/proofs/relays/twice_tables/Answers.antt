@@ -1,8 +1,8 @@
 use Rattle.std.proofs.Common.{sym, ap, subst, ◌∙◌}
-use Rattle.desk_base.specs.Acts.{after_act}
-use Rattle.desk_base.specs.Sound.{IsSound}
-use Rattle.desk_base.specs.Trial.{trial}
-use Rattle.desk_base.specs.declared.changes.Act.TheVariants.{PutGroup}
+use Rattle.desk_base.specs.asked.Acts.{after_act}
+use Rattle.desk_base.specs.rules.Sound.{IsSound}
+use Rattle.desk_base.specs.rows.Trial.{trial}
+use Rattle.desk_base.specs.declared.asked.acts.Act.TheVariants.{PutGroup}
 use Rattle.tests_core.specs.Relays.{first_call}
 use Rattle.tests_core.proofs.RelaysSound.{twice_sound}
 use Rattle.tests_core.proofs.relays.twice_tables.Goals as goal
