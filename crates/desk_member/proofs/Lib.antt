@@ -1,0 +1,7 @@
+pub mod ByMembers
+pub mod SumLemmas
+pub mod MemberRows
+pub mod Shares
+pub mod Adding
+pub mod SpanLemmas
+pub mod CountLemmas
