@@ -1,0 +1,13 @@
+-- The crews of a schedule.
+use Rattle.std.specs.Prelude.{ℕ, Bool, List, map, filter}
+use Rattle.desk_base.specs.declared.rows.tables.Tables.{Tables}
+use Rattle.desk_base.specs.declared.rows.resources.ResourceRow.{ResourceRow}
+use Rattle.desk_base.specs.meaning.Load.{sort_of_kind, is_crew}
+
+-- the row is of a crew
+unfoldable pub is_crew_row : ResourceRow → Bool
+is_crew_row x = is_crew (sort_of_kind x.kind)
+
+-- the numbers of all crews, rising
+abbrev pub crews_of : Tables → List ℕ
+crews_of t = map (λ x. x.id) (filter is_crew_row t.resources)
