@@ -1,14 +1,15 @@
 #!/usr/bin/env bash
 # What the merge gate costs: runs `rt ci`, and prints the processor minutes of each crate for its proof, its tests and its edits, and
 # those of all that is not one crate's (building, linking and running). Run it at the top of a repository; what `rt ci` says
-# goes to standard error, and its status is the script's.
+# goes to standard error, and its status is the script's. With names it runs the gate of these crates and those below them. What
+# a kit has kept of an earlier run costs nothing here: `bench/gate.sh --anew` measures all.
 #
 # `rt ci` prints no times, so twice a second the script reads from /proc what each process below it has used. A process is of the crate
 # that its words name behind `--crate-name`: tests where one of them is `--test`, an edit where it works on a copy of the crate, else a
 # proof. What a process uses after the last look at it is lost, half a second at most.
 set -u
 
-rt ci >&2 &
+rt ci "$@" >&2 &
 gate=$!
 ticks_a_minute=$((60 * $(getconf CLK_TCK)))
 
