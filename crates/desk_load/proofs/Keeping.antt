@@ -1,5 +1,5 @@
 -- Changes that leave what an index keeps.
-use Rattle.std.proofs.Common.{◌≡◌, ℕ, ◌+◌, Bool, true, false, cond, not, ◌&&◌, ◌||◌, ◌==◌, List, [], ◌∷◌, map, pos, refl, sym, ap, ◌∙◌, subst}
+use Rattle.std.proofs.Common.{◌≡◌, ℕ, ◌+◌, false, cond, ◌&&◌, ◌||◌, ◌==◌, List, [], ◌∷◌, map, pos, refl, sym, ap, ◌∙◌}
 use Rattle.std.proofs.lemmas.Bool.{false≢true}
 use Rattle.std.specs.Prelude.{filter, find, sum_by}
 use Rattle.std.specs.List.{list_any, AllByRecursion}
@@ -15,15 +15,14 @@ use Rattle.desk_base.specs.declared.rows.resources.MemberRow.{MemberRow}
 use Rattle.desk_base.specs.declared.rows.groups.GroupRow.{GroupRow}
 use Rattle.desk_base.specs.declared.rows.bookings.BookingRow.{BookingRow}
 use Rattle.desk_base.specs.declared.search.results.Ask.{Ask}
-use Rattle.desk_base.specs.declared.asked.acts.Change.{Change}
 use Rattle.desk_base.specs.rows.Rows.{key_of}
-use Rattle.desk_base.specs.changes.Changes.{with_row, without_row, without_key, with_rows, without_keys, with_change}
+use Rattle.desk_base.specs.changes.Changes.{with_row, without_row}
 use Rattle.desk_base.specs.meaning.Time.{covers}
 use Rattle.desk_base.specs.meaning.Load.{LoadSort, plain, crew, pool, unknown, sort_of, sort_of_kind, is_crew, members, loads, effort_at, own_load, plain_load, load, load_by, weight, ask_of}
-use Rattle.desk_member.specs.Memberships.{AreMemberships, of_member}
+use Rattle.desk_member.specs.Memberships.{of_member}
 use Rattle.desk_load.specs.declared.weights.Weight.{Weight}
 use Rattle.desk_load.specs.Effects.{is_indexed, KeepIndexed}
-use Rattle.desk_load.specs.Index.{IsWeightOf, AreWeightsOf, IsIndexOf, resource_numbers, group_numbers}
+use Rattle.desk_load.specs.Index.{IsWeightOf, IsIndexOf}
 use Rattle.desk_load.specs.Lists.{lists_of}
 use Rattle.desk_load.specs.Parted.{IndexParts}
 
@@ -32,7 +31,7 @@ use Rattle.desk_load.specs.Parted.{IndexParts}
 kept : (t s : Tables) → s.resources ≡ t.resources → s.members ≡ t.members → s.groups ≡ t.groups → s.bookings ≡ t.bookings → KeepIndexed t s
 kept t s a b c d = record { resources = a; members = b; groups = c; bookings = d }
 
-keep_out : (t : Tables) (table : Table) (k : Key) → is_indexed table ≡ false → KeepIndexed t (without_row t table k)
+pub keep_out : (t : Tables) (table : Table) (k : Key) → is_indexed table ≡ false → KeepIndexed t (without_row t table k)
 keep_out t ZoneTable k e = kept t _ refl refl refl refl
 keep_out t CalendarTable k e = kept t _ refl refl refl refl
 keep_out t WorkTable k e = kept t _ refl refl refl refl
@@ -54,7 +53,7 @@ keep_out t BookingTable k e = absurd (false≢true (sym e))
 keep_out t CallerTable k e = kept t _ refl refl refl refl
 keep_out t BookingNumbers k e = kept t _ refl refl refl refl
 
-keep_in : (t : Tables) (row : AnyRow) → is_indexed (key_of row).table ≡ false → KeepIndexed t (with_row t row)
+pub keep_in : (t : Tables) (row : AnyRow) → is_indexed (key_of row).table ≡ false → KeepIndexed t (with_row t row)
 keep_in t (Zone x) e = kept t _ refl refl refl refl
 keep_in t (Calendar x) e = kept t _ refl refl refl refl
 keep_in t (Work x) e = kept t _ refl refl refl refl
@@ -74,31 +73,6 @@ keep_in t (Member x) e = absurd (false≢true (sym e))
 keep_in t (Group x) e = absurd (false≢true (sym e))
 keep_in t (Booking x) e = absurd (false≢true (sym e))
 keep_in t (Caller x) e = kept t _ refl refl refl refl
-
-both : (r s t : Tables) → KeepIndexed r s → KeepIndexed s t → KeepIndexed r t
-both r s t a b = record { resources = b.resources ∙ a.resources; members = b.members ∙ a.members; groups = b.groups ∙ a.groups; bookings = b.bookings ∙ a.bookings }
-
-neither : (a b : Bool) → (a || b) ≡ false → (a ≡ false) × (b ≡ false)
-neither true b e = absurd (false≢true (sym e))
-neither false b e = (refl, e)
-
-keys_keep : (t : Tables) (keys : List Key) → list_any (λ (k : Key). is_indexed k.table) keys ≡ false → KeepIndexed t (without_keys t keys)
-keys_keep t [] e = kept t t refl refl refl refl
-keys_keep t (k ∷ keys) e =
-    let n = neither (is_indexed k.table) _ e in
-    both t (without_key t k) (without_keys (without_key t k) keys) (keep_out t k.table k n.0) (keys_keep (without_key t k) keys n.1)
-
-rows_keep : (t : Tables) (rows : List AnyRow) → list_any (λ (x : AnyRow). is_indexed (key_of x).table) rows ≡ false → KeepIndexed t (with_rows t rows)
-rows_keep t [] e = kept t t refl refl refl refl
-rows_keep t (x ∷ rows) e =
-    let n = neither (is_indexed (key_of x).table) _ e in
-    both t (with_row t x) (with_rows (with_row t x) rows) (keep_in t x n.0) (rows_keep (with_row t x) rows n.1)
-
-pub change_keeps : (t : Tables) (c : Change) → list_any (λ (k : Key). is_indexed k.table) c.removes ≡ false → list_any (λ (x : AnyRow). is_indexed (key_of x).table) c.puts ≡ false → KeepIndexed t (with_change t c)
-unfolding with_change
-change_keeps t c a b =
-    let k = both t (without_keys t c.removes) (with_rows (without_keys t c.removes) c.puts) (keys_keep t c.removes a) (rows_keep (without_keys t c.removes) c.puts b) in
-    record { resources = k.resources; members = k.members; groups = k.groups; bookings = k.bookings }
 
 -- ---- loads hang on resources and memberships alone
 
@@ -122,7 +96,7 @@ module _ (s t : Tables) (er : s.resources ≡ t.resources) (em : s.members ≡ t
   by_same pool r m a = λ i. own_load r m a + sum_by (λ x. plain_same x m a i) (members_same r m i)
   by_same unknown r m a = refl
 
-  load_same : (r m : ℕ) (a : Ask) → load s r m a ≡ load t r m a
+  pub load_same : (r m : ℕ) (a : Ask) → load s r m a ≡ load t r m a
   unfolding load
   load_same r m a = ap (λ k. load_by k s r m a) (sort_same r) ∙ by_same (sort_of t r) r m a
 

@@ -1,5 +1,5 @@
 -- What is found in an index.
-use Rattle.std.proofs.Common.{◌≡◌, ℕ, Bool, true, false, cond, ◌||◌, ◌==◌, List, [], ◌∷◌, map, Option, Some, None, is_some, inl, inr, refl, sym, ap, ◌∙◌, subst, arith}
+use Rattle.std.proofs.Common.{◌≡◌, ℕ, Bool, true, false, cond, ◌||◌, ◌==◌, List, [], ◌∷◌, map, Some, inl, inr, refl, sym, ap, ◌∙◌, subst, arith}
 use Rattle.std.proofs.lemmas.Bool.{false≢true}
 use Rattle.std.proofs.lemmas.Bool.Decides.{nat_tests}
 use Rattle.std.specs.Prelude.{filter, find}
@@ -46,7 +46,7 @@ resource_named t b w i =
     let e : b.resource ≡ x.0.id = ap (λ (k : Key). k.a) (k.2 ∙ ap key_of x.2) in
     named b.resource (resource_numbers t) (subst (λ n. IsIn n (resource_numbers t)) (sym e) (in_mapped (λ (x : ResourceRow). x.id) x.0 t.resources x.1))
 
-group_named : (t : Tables) (b : BookingRow) → AreWellFormed t → IsIn b t.bookings → list_any (λ k. k == b.group) (group_numbers t) ≡ true
+pub group_named : (t : Tables) (b : BookingRow) → AreWellFormed t → IsIn b t.bookings → list_any (λ k. k == b.group) (group_numbers t) ≡ true
 group_named t b w i =
     let c = w.citation (key_of (Booking b)) (Booking b) (id_key GroupTable b.group) (contains_from_in (map Booking t.bookings) (Booking b) (in_mapped Booking b t.bookings i)) refl (contains_from_in (citations_of (Booking b)) (id_key GroupTable b.group) (inl refl)) in
     let k = in-map key_of (id_key GroupTable b.group) (map Group t.groups) (in_from_contains (keys_in t GroupTable) (id_key GroupTable b.group) c) in
@@ -54,7 +54,7 @@ group_named t b w i =
     let e : b.group ≡ x.0.id = ap (λ (k : Key). k.a) (k.2 ∙ ap key_of x.2) in
     named b.group (group_numbers t) (subst (λ n. IsIn n (group_numbers t)) (sym e) (in_mapped (λ (x : GroupRow). x.id) x.0 t.groups x.1))
 
-under : (f : BookingRow → ℕ) (n : ℕ) (names : List ℕ) (bs : List BookingRow) → list_under n (lists_of f names bs) ≡ cond (list_any (λ k. k == n) names) (filter (owns f n) bs) []
+pub under : (f : BookingRow → ℕ) (n : ℕ) (names : List ℕ) (bs : List BookingRow) → list_under n (lists_of f names bs) ≡ cond (list_any (λ k. k == n) names) (filter (owns f n) bs) []
 under f n [] bs = refl
 under f n (k ∷ names) bs = step (k == n) refl (under f n names bs)
   where

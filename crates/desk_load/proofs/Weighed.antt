@@ -1,11 +1,10 @@
 -- What bookings weigh, and what their parts come to.
-use Rattle.std.proofs.Common.{◌≡◌, ℕ, suc, ◌+◌, ◌*◌, ◌≤◌, ◌<◌, Bool, true, false, cond, ◌&&◌, ◌==◌, List, [], ◌∷◌, ◌++◌, map, length, ℤ, pos, ◌+ℤ◌, refl, sym, ap, ◌∙◌, subst, arith}
+use Rattle.std.proofs.Common.{◌≡◌, ℕ, ◌+◌, ◌*◌, ◌≤◌, Bool, true, false, cond, ◌&&◌, ◌==◌, List, [], ◌∷◌, ◌++◌, map, length, pos, refl, sym, ap, ◌∙◌, arith}
 use Rattle.std.proofs.lemmas.Int.{ints}
 use Rattle.std.proofs.lemmas.List.{length-map}
 use Rattle.std.proofs.lemmas.List.Sums.{sum_by-cons}
 use Rattle.std.specs.Prelude.{filter, sum_by}
 use Rattle.desk_base.specs.declared.rows.tables.Tables.{Tables}
-use Rattle.desk_base.specs.declared.rows.bookings.BookingRow.{BookingRow}
 use Rattle.desk_base.specs.declared.search.results.Ask.{Ask}
 use Rattle.desk_base.specs.declared.rows.tables.Table.TheVariants.{Booking as BookingTable, Member as MemberTable}
 use Rattle.desk_base.specs.declared.rows.tables.AnyRow.TheVariants.{Booking, Member}
@@ -14,8 +13,7 @@ use Rattle.desk_base.specs.meaning.Time.{covers}
 use Rattle.desk_base.specs.meaning.Load.{load, weight, ask_of}
 use Rattle.desk_base.specs.rules.Sound.{AreWellFormed}
 use Rattle.desk_base.proofs.meaning.Efforts.{weight_light, light_uses, some_light}
-use Rattle.desk_spans.specs.declared.piece.Piece.{Piece}
-use Rattle.desk_spans.specs.Pieces.{share, sum_at}
+use Rattle.desk_spans.specs.Pieces.{sum_at}
 use Rattle.desk_spans.specs.Timeline.{value_limit}
 use Rattle.desk_spans.proofs.PieceLemmas.{sum_at-cons}
 use Rattle.desk_base.specs.rows.Ranges.{owns}
@@ -39,13 +37,13 @@ weight-one t a r m = let h = sum_by-cons (load t r m) a [] in omega arith
 
 -- ---- what well-formed tables may weigh
 
-more_times : (j k n : ℕ) → j ≤ k → j * n ≤ k * n
+pub more_times : (j k n : ℕ) → j ≤ k → j * n ≤ k * n
 more_times j k n h = grind (arith)
 
-few_bookings : (t : Tables) → AreWellFormed t → length (map ask_of t.bookings) ≤ 4000000
+pub few_bookings : (t : Tables) → AreWellFormed t → length (map ask_of t.bookings) ≤ 4000000
 few_bookings t w = let h = w.limit BookingTable in let a = length-map t.bookings Booking in let b = length-map t.bookings ask_of in omega (arith, h, a, b)
 
-few_members : (t : Tables) → AreWellFormed t → length t.members ≤ 20000
+pub few_members : (t : Tables) → AreWellFormed t → length t.members ≤ 20000
 few_members t w = let h = w.limit MemberTable in let a = length-map t.members Member in omega (arith, h, a)
 
 pub weight_small : (t : Tables) → AreWellFormed t → (r m : ℕ) → weight t (map ask_of t.bookings) r m ≤ value_limit

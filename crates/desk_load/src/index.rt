@@ -73,7 +73,7 @@ impl LoadIndex {
 
 /// The list of a number, or none.
 #[tactic(auto, using(crate::proofs::Numbers::rise_strict))]
-fn list_under(lists: &[BookingList], number: u32) -> &[BookingRow]
+pub(crate) fn list_under(lists: &[BookingList], number: u32) -> &[BookingRow]
     requires { IsStrictlySortedBy nat_cmp (map (λ l. l.number) lists.now) }
     ensures { result.now ≡ list_under number lists.now }
 {

@@ -1,0 +1,14 @@
+use Rattle.std.proofs.Common.{◌≡◌, take}
+use Rattle.desk_member.specs.Pieces.{taken}
+use Rattle.desk_load.specs.Changed.{before_of}
+use Rattle.desk_load.specs.Turns.{turned, AreRaised}
+use Rattle.desk_load.proofs.changes.opened.OpenIndex.add_items.Given as goal
+
+abbrev pub invariant-loop-item : goal.invariant-loop-item
+invariant-loop-item l = record {
+  weights : AreRaised (λ r m. turned l.turn (taken (take l.item-index l.items) r m)) l.initial.self.weights.items l.self.weights.items;
+  standing : l.self.standing.items ≡ l.initial.self.standing.items;
+  booked : l.self.booked.items ≡ l.initial.self.booked.items;
+  members : l.self.members ≡ l.initial.self.members;
+  before : before_of l.self ≡ before_of l.initial.self;
+}

@@ -1,0 +1,33 @@
+use Rattle.std.proofs.Common.{◌≡◌, ℕ, ◌+◌, ◌<◌, ◌≤◌, Bool, true, false, cond, List, [], ◌∷◌, ◌++◌, map, take, length, Some, None, refl, sym, ap, ◌∙◌, subst, arith}
+use Rattle.std.proofs.lemmas.List.{take_all}
+use Rattle.desk_base.specs.declared.rows.resources.MemberRow.{MemberRow}
+use Rattle.desk_base.specs.meaning.Load.{sort_of}
+use Rattle.desk_base.specs.rules.Sound.{AreWellFormed}
+use Rattle.desk_member.specs.Memberships.{of_member}
+use Rattle.desk_member.specs.Spans.{rows_of_group}
+use Rattle.desk_load.specs.Views.{ViewParts}
+use Rattle.desk_load.specs.Scans.{groups_at, plain_and_groups, members_and_groups}
+use Rattle.desk_load.specs.Shown.{first_on, bearing_by, bearing_on}
+use Rattle.desk_load.proofs.Used.{not_true, not_false}
+use Rattle.desk_load.proofs.Scanned.{append_nothing, append_twice, groups_more, members_more}
+use Rattle.desk_load.proofs.Least.{first_more, first_whole}
+use Rattle.desk_load.proofs.view.free.FreeView.first_with_members.Goals as goal
+
+pub loop-row-init : goal.loop-row-init
+loop-row-init c seen e = e ∙ ap (first_on c.args.self.now c.args.place.now) (sym (append_nothing seen))
+
+pub loop-row-preserved : goal.loop-row-preserved
+loop-row-preserved c seen e =
+    let t = c.args.self.now.tables in
+    let k : ℕ = c.args.place.now.minute in
+    let rows = c.rows_of-row-items.result.now in
+    let i : ℕ = c.loop-row.row-index in
+    c.first_with_member-least.ensures (seen ++ members_and_groups t (take i rows) k) (c.loop-row.invariant seen e) ∙ ap (first_on c.args.self.now c.args.place.now) (members_more t seen rows i c.row-item.result k c.loop-row-test.true c.row-item.is)
+
+pub returns : goal.returns
+returns c seen e =
+    let t = c.args.self.now.tables in
+    let k : ℕ = c.args.place.now.minute in
+    let rows = c.rows_of-row-items.result.now in
+    let i : ℕ = c.loop-row.row-index in
+    c.loop-row.invariant seen e ∙ ap (first_on c.args.self.now c.args.place.now) (ap (λ l. seen ++ members_and_groups t l k) (take_all i rows c.loop-row-test.false ∙ c.rows_of-row-items.ensures.rows))

@@ -1,0 +1,228 @@
+//! Changes whose indexed rows are bookings, and groups that are put before them: an index follows them row by row, and nothing
+//! else of it is touched.
+ghost use Rattle.std.specs.Prelude.{◌≡◌, ◌==◌, ℕ, suc, true, ◌≤◌, length, find, IfOk, OnOk, IfSome};
+ghost use Rattle.std.specs.Option.{option_copied};
+ghost use Rattle.desk_base.specs.declared.rows.tables.Tables.{Tables};
+ghost use Rattle.desk_base.specs.declared.rows.tables.Table.TheVariants.{Booking as BookingTable};
+ghost use Rattle.desk_base.specs.declared.rows.tables.AnyRow.TheVariants.{Booking};
+ghost use Rattle.desk_base.specs.rows.Keys.{id_key};
+ghost use Rattle.desk_base.specs.rows.Lookups.{KeysRise};
+ghost use Rattle.desk_base.specs.rules.Sound.{AreWellFormed};
+ghost use Rattle.desk_base.specs.changes.Changes.{with_row, without_row, without_key, with_rows, without_keys, with_change};
+ghost use Rattle.desk_load.specs.Index.{IsIndexOf};
+ghost use Rattle.desk_load.specs.Changed.{IsOrdered, parts_of, before_of};
+ghost use Rattle.desk_load.specs.Stages.{IsUsable, IsStage};
+
+use crate::changes::opened::OpenIndex;
+use crate::changes::turns::Turn;
+use crate::effects::is_indexed;
+use crate::index::list_under;
+use desk_base::limits::EFFORT_LIMIT;
+use desk_base::{AnyRow, BookingId, BookingRow, Change, Key, NoMemory, Table, Tables};
+use std::alloc::Global;
+
+/// As many bookings as well-formed tables have at most.
+const MOST_BOOKINGS: usize = 4_000_000;
+
+/// Why an index does not follow a change.
+pub(crate) enum Stop {
+    /// Memory was not found.
+    NoMemory,
+    /// It changes more than bookings and groups that are put before them, or puts bookings in another order than that of their numbers.
+    Unfollowed,
+}
+
+/// The number of the booking that stands under a key; `None` where no booking may.
+fn booking_of(key: &Key) -> Option<BookingId>
+    ensures { IfSome result (λ id. key.now ≡ id_key BookingTable id) }
+{
+    if key.b != 0 || key.c != 0 {
+        return None;
+    }
+    match key.table {
+        Table::Booking => BookingId::of(key.a),
+        _ => None,
+    }
+}
+
+/// Whether a booking is of a resource that is there, not empty, and of an effort that may be.
+fn is_usable(tables: &Tables, booking: &BookingRow) -> bool
+    requires { KeysRise tables.now }
+    ensures { result ≡ true → IsUsable tables.now booking.now }
+{
+    tables.resource(booking.resource).is_some()
+        && booking.from.get() < booking.to.get()
+        && booking.effort <= EFFORT_LIMIT
+}
+
+/// The booking of a number among some.
+fn among(rows: &[BookingRow], id: BookingId) -> Option<&BookingRow>
+    ensures { option_copied result ≡ find (λ b. b.id == id) rows.now }
+{
+    let number = id.get();
+    rows.iter().find(|b| b.id.get() == number)
+}
+
+impl OpenIndex {
+    /// Takes the booking of a number out, where it stands.
+    #[tactic(auto, using(crate::proofs::Numbers::keys_climb))]
+    fn take_out(
+        &mut self,
+        alloc: Global,
+        tables: &Tables,
+        next: u32,
+        id: BookingId,
+    ) -> Result<(), NoMemory>
+        requires well_formed { AreWellFormed tables.now }
+        requires stage { (s : Tables) × ((more : ℕ) × IsStage tables.now s next more (parts_of self.old)) }
+        requires later { next ≤ id }
+        ensures out { OnOk result ((s : Tables) (more : ℕ) → IsStage tables.now s next more (parts_of self.old) → IsStage tables.now (without_row s BookingTable (id_key BookingTable id)) next more (parts_of self.new)) }
+        ensures before { before_of self.new ≡ before_of self.old }
+    {
+        let Some(former) = tables.booking(id) else {
+            return Ok(());
+        };
+        let rows = list_under(self.standing.as_slice(), former.resource.get());
+        match among(rows, id) {
+            Some(found) => {
+                let booking = *found;
+                self.turn(alloc, tables, Turn::Goes, &booking)?;
+                Ok(())
+            }
+            None => Ok(()),
+        }
+    }
+
+    /// Puts a booking, in the place of the one of its number if that stands.
+    fn put_in(
+        &mut self,
+        alloc: Global,
+        tables: &Tables,
+        next: u32,
+        booking: &BookingRow,
+    ) -> Result<(), NoMemory>
+        requires well_formed { AreWellFormed tables.now }
+        requires stage { (s : Tables) × ((more : ℕ) × IsStage tables.now s next (suc more) (parts_of self.old)) }
+        requires later { next ≤ booking.now.id }
+        requires usable { IsUsable tables.now booking.now }
+        ensures came { OnOk result ((s : Tables) (more : ℕ) → IsStage tables.now s next (suc more) (parts_of self.old) → IsStage tables.now (with_row s (Booking booking.now)) (suc booking.now.id) more (parts_of self.new)) }
+        ensures before { before_of self.new ≡ before_of self.old }
+    {
+        self.take_out(alloc, tables, next, booking.id)?;
+        self.turn(alloc, tables, Turn::Comes, booking)?;
+        Ok(())
+    }
+
+    /// Takes the row of a key out, where that is a booking or is not indexed.
+    fn take_out_key(&mut self, alloc: Global, tables: &Tables, key: &Key) -> Result<(), Stop>
+        requires well_formed { AreWellFormed tables.now }
+        requires stage { (s : Tables) × ((more : ℕ) × IsStage tables.now s 0 more (parts_of self.old)) }
+        ensures out { OnOk result ((s : Tables) (more : ℕ) → IsStage tables.now s 0 more (parts_of self.old) → IsStage tables.now (without_key s key.now) 0 more (parts_of self.new)) }
+        ensures before { before_of self.new ≡ before_of self.old }
+    {
+        if !is_indexed(key.table) {
+            return Ok(());
+        }
+        let Some(id) = booking_of(key) else {
+            return Err(Stop::Unfollowed);
+        };
+        match self.take_out(alloc, tables, 0, id) {
+            Ok(()) => Ok(()),
+            Err(NoMemory) => Err(Stop::NoMemory),
+        }
+    }
+
+    /// Puts a row that is a group, a booking, or not indexed, and gives the least number of a booking that may be put then.
+    #[tactic(auto, using(crate::proofs::Numbers::keys_climb))]
+    fn put_row(
+        &mut self,
+        alloc: Global,
+        tables: &Tables,
+        next: u32,
+        row: &AnyRow,
+    ) -> Result<u32, Stop>
+        requires well_formed { AreWellFormed tables.now }
+        requires stage { (s : Tables) × ((more : ℕ) × IsStage tables.now s next (suc more) (parts_of self.old)) }
+        ensures put { IfOk result (λ n. (s : Tables) (more : ℕ) → IsStage tables.now s next (suc more) (parts_of self.old) → IsStage tables.now (with_row s row.now) n more (parts_of self.new)) }
+        ensures before { before_of self.new ≡ before_of self.old }
+    {
+        match row {
+            AnyRow::Booking(booking) => {
+                if booking.id.get() < next || !is_usable(tables, booking) {
+                    return Err(Stop::Unfollowed);
+                }
+                match self.put_in(alloc, tables, next, booking) {
+                    Ok(()) => Ok(booking.id.get() + 1),
+                    Err(NoMemory) => Err(Stop::NoMemory),
+                }
+            }
+            AnyRow::Group(group) => {
+                if next != 0 {
+                    return Err(Stop::Unfollowed);
+                }
+                match self.put_group(alloc, tables, group) {
+                    Ok(()) => Ok(0),
+                    Err(NoMemory) => Err(Stop::NoMemory),
+                }
+            }
+            _ => {
+                if is_indexed(row.key().table) {
+                    Err(Stop::Unfollowed)
+                } else {
+                    Ok(next)
+                }
+            }
+        }
+    }
+
+    /// Takes out the rows of the keys of a change.
+    fn take_out_all(&mut self, alloc: Global, tables: &Tables, change: &Change) -> Result<(), Stop>
+        requires well_formed { AreWellFormed tables.now }
+        requires stage { IsStage tables.now tables.now 0 (length change.now.puts) (parts_of self.old) }
+        ensures out { OnOk result (IsStage tables.now (without_keys tables.now change.now.removes) 0 (length change.now.puts) (parts_of self.new)) }
+        ensures before { before_of self.new ≡ before_of self.old }
+    {
+        for key in change.removes.as_slice() {
+            self.take_out_key(alloc, tables, key)?;
+        }
+        Ok(())
+    }
+
+    /// Puts the rows of a change.
+    fn put_all(&mut self, alloc: Global, tables: &Tables, change: &Change) -> Result<(), Stop>
+        requires well_formed { AreWellFormed tables.now }
+        requires stage { IsStage tables.now (without_keys tables.now change.now.removes) 0 (length change.now.puts) (parts_of self.old) }
+        ensures index { OnOk result (IsIndexOf (with_rows (without_keys tables.now change.now.removes) change.now.puts) (parts_of self.new)) }
+        ensures order { OnOk result (IsOrdered (parts_of self.new)) }
+        ensures before { before_of self.new ≡ before_of self.old }
+    {
+        let mut next = 0;
+        for row in change.puts.as_slice() {
+            next = self.put_row(alloc, tables, next, row)?;
+        }
+        Ok(())
+    }
+
+    /// Follows a change whose indexed rows are bookings, put in the order of their numbers, and groups that are put before them.
+    pub(crate) fn follow(
+        &mut self,
+        alloc: Global,
+        tables: &Tables,
+        change: &Change,
+    ) -> Result<(), Stop>
+        requires well_formed { AreWellFormed tables.now }
+        requires index { IsIndexOf tables.now (parts_of self.old) }
+        requires order { IsOrdered (parts_of self.old) }
+        ensures index { OnOk result (IsIndexOf (with_change tables.now change.now) (parts_of self.new)) }
+        ensures order { OnOk result (IsOrdered (parts_of self.new)) }
+        ensures before { before_of self.new ≡ before_of self.old }
+    {
+        let standing = tables.bookings.len();
+        if MOST_BOOKINGS < standing || MOST_BOOKINGS - standing < change.puts.len() {
+            return Err(Stop::Unfollowed);
+        }
+        self.take_out_all(alloc, tables, change)?;
+        self.put_all(alloc, tables, change)?;
+        Ok(())
+    }
+}

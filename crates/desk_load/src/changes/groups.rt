@@ -1,0 +1,38 @@
+//! A group that is put: an index has a list for it.
+ghost use Rattle.std.specs.Prelude.{◌≡◌, ℕ, OnOk};
+ghost use Rattle.desk_base.specs.declared.rows.tables.Tables.{Tables};
+ghost use Rattle.desk_base.specs.declared.rows.tables.AnyRow.TheVariants.{Group};
+ghost use Rattle.desk_base.specs.rules.Sound.{AreWellFormed};
+ghost use Rattle.desk_base.specs.changes.Changes.{with_row};
+ghost use Rattle.desk_load.specs.Changed.{parts_of, before_of};
+ghost use Rattle.desk_load.specs.Stages.{IsStage};
+
+use crate::changes::opened::OpenIndex;
+use crate::lists::BookingList;
+use desk_base::{GroupRow, Items, NoMemory, Tables, row_of};
+use std::alloc::Global;
+
+impl OpenIndex {
+    /// Puts a group before any booking: a new one gets a list, which is empty.
+    #[tactic(auto, using(crate::proofs::Numbers::rise_strict))]
+    pub(crate) fn put_group(
+        &mut self,
+        alloc: Global,
+        tables: &Tables,
+        group: &GroupRow,
+    ) -> Result<(), NoMemory>
+        requires well_formed { AreWellFormed tables.now }
+        requires stage { (s : Tables) × ((more : ℕ) × IsStage tables.now s 0 more (parts_of self.old)) }
+        ensures put { OnOk result ((s : Tables) (more : ℕ) → IsStage tables.now s 0 more (parts_of self.old) → IsStage tables.now (with_row s (Group group.now)) 0 more (parts_of self.new)) }
+        ensures before { before_of self.new ≡ before_of self.old }
+    {
+        let number = group.id.get();
+        if let Some(_list) = row_of(self.booked.as_slice(), number) {
+            return Ok(());
+        }
+        let at = self.booked.partition_point(|list| list.number < number);
+        let bookings = Items::new(alloc);
+        self.add_booked(at, BookingList { number, bookings })?;
+        Ok(())
+    }
+}
