@@ -1,0 +1,3 @@
+-- Lemmas on lists of positions.
+pub mod Among
+pub mod Sounding
