@@ -1,0 +1,5 @@
+pub mod Asked
+pub mod Laid
+pub mod Refusing
+pub mod Trees
+pub mod Windows
