@@ -1,0 +1,1 @@
+-- Which ledger a caller takes that counts nothing.
