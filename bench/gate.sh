@@ -4,9 +4,9 @@
 # goes to standard error, and its status is the script's. With names it runs the gate of these crates and those below them. What
 # a kit has kept of an earlier run costs nothing here: `bench/gate.sh --anew` measures all.
 #
-# `rt ci` prints no times, so twice a second the script reads from /proc what each process below it has used. A process is of the crate
+# `rt ci` prints no times, so every two seconds the script reads from /proc what each process below it has used. A process is of the crate
 # that its words name behind `--crate-name`: tests where one of them is `--test`, an edit where it works on a copy of the crate, else a
-# proof. What a process uses after the last look at it is lost, half a second at most.
+# proof. What a process uses after the last look at it is lost, two seconds at most.
 set -u
 
 rt ci "$@" >&2 &
@@ -51,7 +51,7 @@ look() {
 
 while kill -0 "$gate" 2> /dev/null; do
   look
-  sleep 0.5
+  sleep 2
 done
 wait "$gate"
 status=$?
