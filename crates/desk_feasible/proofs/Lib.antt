@@ -3,3 +3,7 @@ pub mod Laid
 pub mod Refusing
 pub mod Trees
 pub mod Windows
+pub mod Growing
+pub mod GridSteps
+pub mod FirstLive
+pub mod Laying

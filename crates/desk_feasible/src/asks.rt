@@ -9,7 +9,7 @@ ghost use Rattle.desk_base.specs.search.Listing.{ask_for};
 use desk_base::{Ask, Leaf, Minute, ResourceId};
 use std::alloc::{AllocError, Global};
 
-fn ask_for(start: Minute, leaf: &Leaf, id: ResourceId) -> Ask
+pub(crate) fn ask_for(start: Minute, leaf: &Leaf, id: ResourceId) -> Ask
     requires { (leaf_time leaf.now start).to ≤ end_of_minutes }
     ensures { result ≡ ask_for start (record { number = 0; leaf = leaf.now; resource = id }) }
 {

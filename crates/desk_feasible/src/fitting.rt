@@ -10,7 +10,7 @@ use desk_load::{FreeView, Probe};
 use std::sync::ledger::Ledger;
 
 // The times of an ask are minutes of the horizon.
-fn in_horizon(ask: &Ask)
+pub(crate) fn in_horizon(ask: &Ask)
     ensures begin { first_minute ≤ ask.now.window.from }
     ensures end { ask.now.window.to ≤ end_of_minutes }
 {

@@ -9,10 +9,14 @@ mod asks;
 mod broken;
 mod fitting;
 mod grid;
+mod live;
 mod places;
 mod points;
 mod rows;
 mod serving;
 
+pub use live::first_starts::first_start;
+pub use live::growing::extends;
+pub use live::laying::{lay, take_up};
 pub use places::place_refusal;
 pub use rows::feasible;

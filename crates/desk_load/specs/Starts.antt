@@ -1,5 +1,5 @@
 -- Starts in a run.
-use Rattle.std.specs.Prelude.{ℕ, ◌≡◌, ◌+◌, ◌*◌, ◌≤◌}
+use Rattle.std.specs.Prelude.{ℕ, ◌≡◌, ◌+◌, ◌*◌, ◌≤◌, ◌<◌, Option, Some, None}
 use Rattle.desk_load.specs.declared.view.starts.Starts.{Starts}
 
 -- s is a whole number of steps after the first start
@@ -11,3 +11,8 @@ pub record IsAmong (starts : Starts) (s : ℕ) : Type 0 where
 pub record IsStart (starts : Starts) (s : ℕ) : Type 0 where
   pub among : IsAmong starts s
   pub last : s ≤ starts.last
+
+-- the least number from m on of which P holds, or there is none
+abbrev pub IsNextOf : (ℕ → Type 0) → ℕ → Option ℕ → Type 0
+IsNextOf P m None = (s : ℕ) → m ≤ s → P s → ⊥
+IsNextOf P m (Some n) = (m ≤ n) × P n × ((s : ℕ) → m ≤ s → s < n → P s → ⊥)

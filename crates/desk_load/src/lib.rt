@@ -19,6 +19,7 @@ pub use index::LoadIndex;
 pub use lists::BookingList;
 pub use view::clash::clash;
 pub use view::demand::Demand;
+pub use view::fits::StartList;
 pub use view::free::FreeView;
 pub use view::probe::Probe;
 pub use view::starts::Starts;

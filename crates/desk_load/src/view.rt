@@ -4,6 +4,7 @@
 //! stays; so a probe walks the stretches in which nothing changes, and takes no memory.
 pub mod clash;
 pub mod demand;
+pub mod fits;
 pub mod free;
 mod lookups;
 mod memberships;

@@ -20,15 +20,15 @@ pub enum Probe {
 
 /// A minute at which a booking has no room, the least resource there, and the minute before which it stays so.
 #[derive(Clone, Copy, Debug)]
-struct Gap {
-    resource: ResourceId,
-    minute: u32,
-    until: u32,
+pub(crate) struct Gap {
+    pub resource: ResourceId,
+    pub minute: u32,
+    pub until: u32,
 }
 
 impl FreeView<'_> {
     /// The first minute of a range at which a booking has no room.
-    fn gap_in(&self, demand: &Demand, from: u32, to: u32) -> Option<Gap>
+    pub(crate) fn gap_in(&self, demand: &Demand, from: u32, to: u32) -> Option<Gap>
         requires first { first_minute ≤ from }
         requires end { to ≤ end_of_minutes }
         ensures none { IfNone result (EachMinute from to (λ k. HasRoomAt self.now (demand_at demand.now k) k)) }
