@@ -9,7 +9,7 @@ use Rattle.desk_need.specs.Cases.{Asked}
 use Rattle.desk_load.specs.Views.{ViewParts, standing}
 use Rattle.desk_load.specs.Views as views
 use Rattle.desk_feasible.specs.Live.{HasLaid}
-use Rattle.desk_feasible.proofs.Growing.{choices_none, asks_more}
+use Rattle.desk_feasible.proofs.Growing.{choices_nil, choices_none, asks_more}
 
 module _ (a : Asked) (v : ViewParts) (s : ℕ) (picks : List (Option ℕ)) where
   -- what stands in the view are the bookings of the others, and those of the picks
@@ -55,10 +55,19 @@ module _ (a : Asked) (v w : ViewParts) (s : ℕ) (picks : List (Option ℕ)) (r 
       let few : length picks < length a.group.leaves = omega (arith, h.few, length-append picks (Some r ∷ [])) in
       elim (slice_get_cases a.group.leaves (length picks)).1 [
         | inl (leaf, _, e, _) ↦ record {
-            tables = tables ∙ h.tables;
-            without = without ∙ h.without;
-            overlay = popped ∙ ap (λ l. take (length l - 1) l) (h.overlay ∙ asks_more a.group s picks leaf r e) ∙ take_front (asks_for a.group s picks) (ask_for s (record { number = 0; leaf = leaf; resource = r }));
-            few = omega (arith, few);
-          }
+          tables = tables ∙ h.tables;
+          without = without ∙ h.without;
+          overlay = popped ∙ ap (λ l. take (length l - 1) l) (h.overlay ∙ asks_more a.group s picks leaf r e) ∙ take_front (asks_for a.group s picks) (ask_for s (record { number = 0; leaf = leaf; resource = r }));
+          few = omega (arith, few);
+        }
         | inr (past, _) ↦ absurd (omega (arith, few, past))
       ]
+
+-- where nothing is laid, the start is none of the view's
+pub nothing_laid : (a : Asked) (v : ViewParts) (s t : ℕ) → HasLaid a v s [] → HasLaid a v t []
+nothing_laid a v s t h = record {
+  tables = h.tables;
+  without = h.without;
+  overlay = h.overlay ∙ ap (map (ask_for s)) (choices_nil 0 a.group.leaves) ∙ sym (ap (map (ask_for t)) (choices_nil 0 a.group.leaves));
+  few = h.few;
+}

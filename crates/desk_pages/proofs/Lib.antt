@@ -4,5 +4,5 @@ pub mod Tests
 pub mod Places
 pub mod Lives
 -- What a search goes over.
-pub mod Choosing
 pub mod Sounding
+pub mod Paged

@@ -14,8 +14,7 @@ use Rattle.desk_need.specs.Cases.{Asked}
 use Rattle.desk_feasible.specs.Live.{IsReady, IsPlaced}
 use Rattle.desk_feasible.proofs.Growing.{begun_length}
 use Rattle.desk_pages.specs.Places.{live_places}
-use Rattle.desk_pages.specs.Spaces.{earliest}
-use Rattle.desk_pages.proofs.Tests.{IsInHorizon}
+use Rattle.desk_pages.specs.Spaces.{earliest, IsInHorizon}
 use Rattle.desk_pages.proofs.Places.{lives_are}
 
 module _ (a : Asked) (o : Options) (ready : IsReady a) (inside : IsInHorizon a.group) where

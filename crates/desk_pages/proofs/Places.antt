@@ -31,7 +31,8 @@ use Rattle.desk_pages.specs.Places.{choices, prefixes, places_at, places, live_p
 use Rattle.desk_base.proofs.lists.Members.{IsIn, all_from, all_at, in_left, in_right, in-map, in-flat_map, in_mapped, in_flat, in-filter, in_filtered, contains_from_in, in_from_contains, sorted-append, sorted-map, sorted-flat_map}
 use Rattle.desk_base.proofs.lists.Tests.{and_left, and_right, find_cases, in_range, from_range}
 use Rattle.desk_base.proofs.meaning.Patterns.{length-pattern, nat_cmp-same, nat_cmp-less, pick_cmp-same, then-same, then-less}
-use Rattle.desk_pages.proofs.Tests.{IsInHorizon, served, live_decides}
+use Rattle.desk_pages.specs.Spaces.{IsInHorizon}
+use Rattle.desk_pages.proofs.Tests.{served, live_decides}
 
 -- ---- the choices and the starts rise
 
@@ -155,6 +156,7 @@ in-places t g o p shape live =
 
 -- the computed list is the list of live positions
 pub lives_are : (t : Tables) (g : GroupRow) (o : Options) → IsStrictlySortedBy nat_cmp (map (λ x. x.id) t.resources) → Fits t (other_asks t g) → IsInHorizon g → length g.leaves ≡ leaf_count (tree_of g.nodes) → IsLiveList t g o (live_places t g o)
+unfolding live_places
 lives_are t g o order fits inside shape = record {
   rising = IsStrictlySortedBy-filter position_cmp (is_live t g o) (places t g) (sorted-places t g order);
   sound = λ p c. (live_decides t g o p fits inside).0 (in-filter (is_live t g o) p (places t g) (in_from_contains (live_places t g o) p c)).1;

@@ -4,7 +4,7 @@ use Rattle.std.proofs.lemmas.Bool.{cases_lt, false≢true}
 use Rattle.std.proofs.lemmas.List.{length-map, get_or_past}
 use Rattle.std.proofs.lemmas.List.Sums.{length-filter, count_by-le-length}
 use Rattle.std.proofs.lemmas.Option.{slice_get_cases}
-use Rattle.std.specs.Prelude.{Contains, slice_get, is_none, is_some, unwrap_or, MatchOption, ⊤}
+use Rattle.std.specs.Prelude.{Contains, slice_get, is_none, is_some, unwrap_or, IfSome, MatchOption, ⊤}
 use Rattle.std.specs.List.Sorted.{IsStrictlySortedBy}
 use Rattle.std.specs.Ordering.{nat_cmp}
 use Rattle.std.specs.declared.cmp.Ordering.TheVariants.{Less}
@@ -24,15 +24,16 @@ use Rattle.desk_base.specs.search.Positions.{position_at}
 use Rattle.desk_base.proofs.lists.Members.{IsIn, in-append, in-map, in_mapped, in_left, in_right, contains_from_in, in_from_contains, sorted-append, sorted-map}
 use Rattle.desk_base.proofs.lists.Orders.{Enumerates-same}
 use Rattle.desk_base.proofs.searched.Prefixes.{prefix_live}
+use Rattle.desk_base.proofs.tables.Sounds.{keys_in_order}
 use Rattle.desk_need.specs.Candidates.{AreCandidates, serving}
 use Rattle.desk_need.specs.Cases.{Asked}
 use Rattle.desk_need.proofs.CandidateLemmas.{serving_are_candidates}
-use Rattle.desk_pruned.specs.Ways.{IsSound, costs}
-use Rattle.desk_feasible.specs.Live.{IsReady}
+use Rattle.desk_load.specs.Starts.{IsNextOf}
+use Rattle.desk_pruned.specs.Ways.{IsSound, IsLiveAt, IsFirstStart, costs}
+use Rattle.desk_feasible.specs.Live.{IsReady, IsPlaced}
 use Rattle.desk_feasible.proofs.Growing.{last_serves}
-use Rattle.desk_pages.specs.Spaces.{SpaceParts, AreChoices, AreChoicesOf, ways_of}
-use Rattle.desk_pages.proofs.Tests.{IsInHorizon}
-use Rattle.desk_pages.proofs.Lives.{lives, live_from, live_to, live_length, late_from}
+use Rattle.desk_pages.specs.Spaces.{SpaceParts, AreChoices, AreChoicesOf, IsInHorizon, ways_of}
+use Rattle.desk_pages.proofs.Lives.{lives, live_from, live_to, live_length, late_from, placed_from, live_more}
 
 -- ---- the choices of a leaf
 
@@ -79,7 +80,7 @@ module _ (t : Tables) (leaf : Leaf) (xs : List (Option ℕ)) (h : AreChoices t l
 
 -- ---- all of it
 
-module _ (x : SpaceParts) (ready : IsReady x.asked) (inside : IsInHorizon x.asked.group) (rise : KeysRise x.asked.tables) (choices : AreChoicesOf x.asked.tables x.asked.group.leaves (length x.asked.group.leaves) x.choices) where
+module _ (x : SpaceParts) (ready : IsReady x.asked) (inside : IsInHorizon x.asked.group) (choices : AreChoicesOf x.asked.tables x.asked.group.leaves (length x.asked.group.leaves) x.choices) where
   a : Asked
   a = x.asked
 
@@ -119,5 +120,40 @@ module _ (x : SpaceParts) (ready : IsReady x.asked) (inside : IsInHorizon x.aske
     begun = λ s first more some c. live_to x.asked x.options ready inside (position_at s first) (prefix_live x.asked.tables x.asked.group x.options s first more some (live_from x.asked x.options ready inside (position_at s (first ++ more)) c));
     offered = λ s first p c. offered_by s first p (live_from x.asked x.options ready inside (position_at s (first ++ p ∷ [])) c);
     rise = by_number (IsStrictlySortedBy pick_cmp) nothing_sorted (λ leaf xs h. choices_rise x.asked.tables leaf xs h);
-    few = by_number (λ xs. costs xs ≤ length x.asked.tables.resources) (omega arith) (λ leaf xs h. choices_few x.asked.tables leaf xs h rise);
+    few = by_number (λ xs. costs xs ≤ length x.asked.tables.resources) (omega arith) (λ leaf xs h. choices_few x.asked.tables leaf xs h (λ table. keys_in_order x.asked.tables table ready.formed.order));
   }
+
+  pub placed_live : (s : ℕ) (picks : List (Option ℕ)) → IsLiveAt (ways_of x) s picks → IsPlaced x.asked.tables x.asked.group s picks
+  placed_live s picks h = placed_from x.asked x.options (position_at s picks) (live_from x.asked x.options ready inside (position_at s picks) h)
+
+  pub more_live : (s : ℕ) (picks : List (Option ℕ)) (p : Option ℕ) → IsLiveAt (ways_of x) s picks → IsPlaced x.asked.tables x.asked.group s (picks ++ p ∷ []) → IsLiveAt (ways_of x) s (picks ++ p ∷ [])
+  more_live s picks p h placed = live_to x.asked x.options ready inside (position_at s (picks ++ p ∷ [])) (live_more x.asked x.options s picks p (live_from x.asked x.options ready inside (position_at s picks) h) placed)
+
+  -- each choice is of a leaf that is there
+  nothing_offered : (n : ℕ) (p : Option ℕ) → Contains (get_or x.choices n []) p → length x.choices ≤ n → ⊥
+  nothing_offered n p c past = in_from_contains [] p (subst (λ l. Contains l p) (get_or_past x.choices n [] past) c)
+
+  pub offered_leaf : (n : ℕ) (p : Option ℕ) → Contains (get_or x.choices n []) p → n < length x.asked.group.leaves
+  offered_leaf n p c = elim (cases_lt n (length x.asked.group.leaves)) [
+    | inl l ↦ l
+    | inr past ↦ absurd (nothing_offered n p c (omega (arith, choices.size, past)))
+  ]
+
+  served_by : (n : ℕ) (r : ℕ) → Contains (get_or x.choices n []) (Some r) → (o : Option Leaf) → slice_get x.asked.group.leaves n ≡ o → IfSome o (λ leaf. first_broken_rule x.asked.tables leaf r ≡ None)
+  served_by n r c None e = tt
+  served_by n r c (Some leaf) e = choice_serves x.asked.tables leaf (get_or x.choices n []) (choices.each n leaf (offered_leaf n (Some r) c) e) (Some r) c
+
+  pub offered_serves : (n : ℕ) (p : Option ℕ) → Contains (get_or x.choices n []) p → MatchOption p ⊤ (λ r. IfSome (slice_get x.asked.group.leaves n) (λ leaf. first_broken_rule x.asked.tables leaf r ≡ None))
+  offered_serves n None c = tt
+  offered_serves n (Some r) c = served_by n r c (slice_get x.asked.group.leaves n) refl
+
+  pub first_from_next : (p : Option ℕ) (from : ℕ) (o : Option ℕ) → IsNextOf (λ s. IsLive x.asked.tables x.asked.group x.options (position_at s (p ∷ []))) from o → IsFirstStart (ways_of x) p from o
+  first_from_next p from None h = λ u l c. h u l (live_from x.asked x.options ready inside (position_at u (p ∷ [])) c)
+  first_from_next p from (Some t) h = (
+    h.0,
+    live_to x.asked x.options ready inside (position_at t (p ∷ [])) h.1,
+    λ u l c. elim (cases_lt u t) [
+      | inl less ↦ absurd (h.2 u l less (live_from x.asked x.options ready inside (position_at u (p ∷ [])) c))
+      | inr most ↦ most
+    ],
+  )

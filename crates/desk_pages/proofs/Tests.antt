@@ -15,12 +15,12 @@ use Rattle.desk_base.specs.declared.search.results.Options.{Options}
 use Rattle.desk_base.specs.declared.search.results.Ask.{Ask}
 use Rattle.desk_base.specs.declared.asked.rules.LeafRule.{LeafRule}
 use Rattle.desk_base.specs.declared.asked.rules.LeafRule.TheVariants.{Window as OutsideWindow}
-use Rattle.desk_base.specs.rules.Limits.{first_minute, end_of_minutes}
 use Rattle.desk_base.specs.meaning.Eligible.{first_broken_rule, first_broken_at, is_in_windows}
 use Rattle.desk_base.specs.meaning.Load.{Fits}
 use Rattle.desk_base.specs.meaning.Trees.{tree_of, patterns}
 use Rattle.desk_base.specs.meaning.Picks.{Choice, choices_of, pattern_of, first_broken_same}
 use Rattle.desk_base.specs.search.Listing.{IsOnGrid, serves, other_asks, ask_for, asks_for, IsWithinOptions, IsLive}
+use Rattle.desk_pages.specs.Spaces.{IsInHorizon}
 use Rattle.desk_pages.specs.Tests.{is_on_grid, is_within_options, are_same_bits, begins, begins_pattern, is_live}
 use Rattle.desk_base.proofs.lists.Members.{in-map, contains_from_in, in_from_contains}
 use Rattle.desk_base.proofs.lists.Tests.{and_left, and_right, and_both, list_all_at, list_any_at, list_any_from}
@@ -77,10 +77,6 @@ begins_decides g q = (
 )
 
 -- ---- chosen leaves and their times
-
--- the minutes of the group's window are minutes of the horizon
-abbrev pub IsInHorizon : GroupRow → Type 0
-IsInHorizon g = (first_minute ≤ g.from) × (g.to ≤ end_of_minutes)
 
 or_none : (o : Option LeafRule) (b : Bool) → is_none (option_or o (cond b None (Some OutsideWindow))) ≡ true → (is_none o ≡ true) × (b ≡ true)
 or_none None true e = (refl, refl)

@@ -2,7 +2,9 @@
 use Rattle.std.specs.Prelude.{ℕ, ◌≡◌, ◌≤◌, ◌<◌, max, List, [], ◌∷◌, ◌++◌, map, length, get_or, slice_get, Option, Some, None}
 use Rattle.std.specs.Option.{option_map_or}
 use Rattle.desk_base.specs.declared.rows.tables.Tables.{Tables}
+use Rattle.desk_base.specs.declared.rows.groups.GroupRow.{GroupRow}
 use Rattle.desk_base.specs.declared.rows.groups.Leaf.{Leaf}
+use Rattle.desk_base.specs.rules.Limits.{first_minute, end_of_minutes}
 use Rattle.desk_base.specs.declared.search.results.Options.{Options}
 use Rattle.desk_need.specs.Candidates.{AreCandidates}
 use Rattle.desk_need.specs.Cases.{Asked}
@@ -23,6 +25,10 @@ AreChoices t leaf xs = (candidates : List ℕ) × AreCandidates t leaf candidate
 pub record AreChoicesOf (t : Tables) (leaves : List Leaf) (n : ℕ) (choices : List (List (Option ℕ))) : Type 0 where
   pub size : length choices ≡ n
   pub each : (i : ℕ) (leaf : Leaf) → i < n → slice_get leaves i ≡ Some leaf → AreChoices t leaf (get_or choices i [])
+
+-- the group's window lies in the horizon
+abbrev pub IsInHorizon : GroupRow → Type 0
+IsInHorizon g = (first_minute ≤ g.from) × (g.to ≤ end_of_minutes)
 
 -- the later of the group's start and of the first start that the options let through
 abbrev pub earliest : Asked → Options → ℕ

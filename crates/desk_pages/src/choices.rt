@@ -6,6 +6,13 @@ use desk_base::{Items, NoMemory, Picks, ResourceId};
 use desk_need::Case;
 use std::alloc::{AllocError, Global};
 
+/// The resources as picks.
+fn chosen(alloc: Global, candidates: &[ResourceId]) -> Result<Vec<Option<ResourceId>>, AllocError>
+    ensures { IfOk result (λ v. v.items ≡ map Option.Some candidates.now) }
+{
+    candidates.iter().map(|id| Some(*id)).collect(alloc)
+}
+
 /// The resources as picks, and last the pick of a leaf that is left out.
 fn with_none(
     alloc: Global,
@@ -13,7 +20,7 @@ fn with_none(
 ) -> Result<Vec<Option<ResourceId>>, AllocError>
     ensures { IfOk result (λ v. v.items ≡ map Option.Some candidates.now ++ None ∷ []) }
 {
-    let mut picks: Vec<Option<ResourceId>> = candidates.iter().map(|id| Some(*id)).collect(alloc)?;
+    let mut picks = chosen(alloc, candidates)?;
     picks.push(None)?;
     Ok(picks)
 }

@@ -41,14 +41,6 @@ pub fn page<L: Ledger>(
         → steps.new ≤ steps.old + (length (passed_of (length case.now.group.leaves) limit passed_limit (due_of (length case.now.group.leaves) options.now.per (record { after = option_copied after.entry; shown = shown }) ps)) + length case.now.group.leaves + 2) * (length case.now.tables.resources + 1)) }
 {
     let space = Space::build(alloc, case, options)?;
-    page_over(
-        alloc,
-        &space,
-        view,
-        options.per,
-        after,
-        shown,
-        limit,
-        steps,
-    )
+    let page = page_over(alloc, &space, view, options.per, after, shown, limit, steps)?;
+    Ok(page)
 }

@@ -1,7 +1,9 @@
 //! What a search of a group goes over: its case, its options and its choices, over a view of what is free.
-ghost use Rattle.std.specs.Prelude.{◌≡◌, IfOk};
+ghost use Rattle.std.specs.Prelude.{◌≡◌, max, IfOk};
+ghost use Rattle.desk_base.specs.search.Listing.{IsLiveList};
 ghost use Rattle.desk_feasible.specs.Live.{IsReady};
-ghost use Rattle.desk_pages.specs.Spaces.{earliest};
+ghost use Rattle.desk_pages.specs.Spaces.{ways_of};
+ghost use Rattle.desk_pruned.specs.Ways.{IsSound};
 
 use crate::choices::all_choices;
 use desk_base::{Minute, NoMemory, Options, Picks, ResourceId, Steps};
@@ -25,8 +27,7 @@ pub struct Space<'a> {
 impl<'a> Model for Space<'a> {
     ghost use Rattle.std.specs.Prelude.{length};
     ghost use Rattle.desk_feasible.specs.Live.{IsReady};
-    ghost use Rattle.desk_pages.specs.Spaces.{SpaceParts, AreChoicesOf};
-    ghost use Rattle.desk_pages.proofs.Tests.{IsInHorizon};
+    ghost use Rattle.desk_pages.specs.Spaces.{SpaceParts, AreChoicesOf, IsInHorizon};
 
     ghost Value = { SpaceParts };
 
@@ -45,6 +46,8 @@ impl<'a> Space<'a> {
         requires { IsReady case.now }
         ensures asked { IfOk result (λ x. x.asked ≡ case.now) }
         ensures options { IfOk result (λ x. x.options ≡ options.now) }
+        ensures sound { IfOk result (λ x. IsSound (ways_of x)) }
+        ensures lives { IfOk result (λ x. IsLiveList case.now.tables case.now.group options.now (ways_of x).lives) }
     {
         // Read so that their ranges are known.
         let _window = (case.group().from.get(), case.group().to.get());
@@ -67,13 +70,15 @@ fn later(a: Minute, b: Minute) -> Minute
 impl<'a, 'v, L: Ledger> Explored<FreeView<'v>, L> for Space<'a> {
     ghost use Rattle.desk_feasible.specs.Live.{HasLaid};
     ghost use Rattle.desk_pages.specs.Spaces.{ways_of};
-    ghost use Rattle.desk_pages.proofs.Choosing.{nothing_laid};
+    ghost use Rattle.desk_feasible.proofs.Laying.{nothing_laid};
 
     ghost ways = { λ x. ways_of x };
 
     ghost holds = { λ x view s picks. HasLaid x.asked view s picks };
 
-    fn earliest(&self) -> Minute {
+    fn earliest(&self) -> Minute
+        ensures { result ≡ (ways_of self.now).earliest }
+    {
         let from = self.case.group().from;
         match self.options.from {
             Some(minute) => later(from, minute),
@@ -81,11 +86,15 @@ impl<'a, 'v, L: Ledger> Explored<FreeView<'v>, L> for Space<'a> {
         }
     }
 
-    fn leaves(&self) -> usize {
+    fn leaves(&self) -> usize
+        ensures { result ≡ (ways_of self.now).leaves }
+    {
         self.case.group().leaves.len()
     }
 
-    fn choices(&self, leaf: usize) -> &[Option<ResourceId>] {
+    fn choices(&self, leaf: usize) -> &[Option<ResourceId>]
+        ensures { result.now ≡ (ways_of self.now).choices leaf }
+    {
         match self.choices.get(leaf) {
             Some(list) => list.as_slice(),
             None => &[],
@@ -100,7 +109,8 @@ impl<'a, 'v, L: Ledger> Explored<FreeView<'v>, L> for Space<'a> {
         pick: &Option<ResourceId>,
         steps: &mut Steps<L>,
     ) -> Result<bool, NoMemory> {
-        extends(self.alloc, view, self.case, start, picks, pick, steps)
+        let can = extends(self.alloc, view, self.case, start, picks, pick, steps)?;
+        Ok(can)
     }
 
     fn first_start(
@@ -110,14 +120,8 @@ impl<'a, 'v, L: Ledger> Explored<FreeView<'v>, L> for Space<'a> {
         from: u32,
         steps: &mut Steps<L>,
     ) -> Result<Option<Minute>, NoMemory> {
-        Ok(first_start(
-            view,
-            self.case,
-            self.options,
-            pick,
-            from,
-            steps,
-        ))
+        let start = first_start(view, self.case, self.options, pick, from, steps);
+        Ok(start)
     }
 
     fn push(

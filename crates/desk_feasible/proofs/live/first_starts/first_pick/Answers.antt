@@ -30,8 +30,7 @@ invariant_of-starts g c =
     let group = c.group-group.ensures in
     let windows = windows_of a c.args.options.now c.args.leaf.now c.group-group.result.now group c.in-Some.run' c.cut.result c.args.from c.in-Some.ensures in
     let is_cut = cut_of a c.args.options.now c.args.leaf.now c.group-group.result.now group c.in-Some.run' c.cut.result c.args.from c.cut.ensures.cut in
-    let end_is : a.group.to ≤ end_of_minutes = omega (arith, c.get-2.ensures.value, c.get-2.ensures.high, ap (λ (g : GroupRow). g.to) c.group-2.ensures) in
-    (
+    let end_is : a.group.to ≤ end_of_minutes = omega (arith, c.get-2.ensures.value, c.get-2.ensures.high, ap (λ (g : GroupRow). g.to) c.group-2.ensures) in (
       c.requires.ready,
       omega (arith, c.cut.ensures.end, ap (λ (g : GroupRow). g.to) group),
       λ s low high. omega (arith, end_is, leaf_end a.group c.args.leaf.now s ((windows s).1 ((is_cut s).0 (low, high)).0)),
@@ -43,8 +42,13 @@ first_fit_among-requires-clause-end g c m b =
     let group = c.group-group.ensures in
     let windows = windows_of a c.args.options.now c.args.leaf.now c.group-group.result.now group c.in-Some.run' c.cut.result c.args.from c.in-Some.ensures in
     let is_cut = cut_of a c.args.options.now c.args.leaf.now c.group-group.result.now group c.in-Some.run' c.cut.result c.args.from c.cut.ensures.cut in
-    omega (arith, c.get-2.ensures.value, c.get-2.ensures.high, ap (λ (g : GroupRow). g.to) c.group-2.ensures,
-    first.begins_end a c.args.options.now c.requires.ready c.in-Some.run' c.cut.result c.args.from is_cut c.args.leaf.now c.args.id c.requires.leaf c.requires.serves windows m b)
+    omega (
+      arith,
+      c.get-2.ensures.value,
+      c.get-2.ensures.high,
+      ap (λ (g : GroupRow). g.to) c.group-2.ensures,
+      first.begins_end a c.args.options.now c.requires.ready c.in-Some.run' c.cut.result c.args.from is_cut c.args.leaf.now c.args.id c.requires.leaf c.requires.serves windows m b,
+    )
 
 pub returns-in-Some-first_fit_among-clause-first : goal.returns-in-Some-first_fit_among-clause-first
 returns-in-Some-first_fit_among-clause-first g c =
@@ -64,8 +68,7 @@ returns-in-Some-first_fit_among-clause-first g c =
     let begin = λ (n : ℕ). first.begin a o ready run cut c.args.from is_cut leaf c.args.id c.requires.leaf c.requires.serves windows n in
     let low : first_minute ≤ a.group.from = omega (arith, c.get.ensures.value, c.get.ensures.low, ap (λ (g : GroupRow). g.from) c.group.ensures) in
     let high : a.group.to ≤ end_of_minutes = omega (arith, c.get-2.ensures.value, c.get-2.ensures.high, ap (λ (g : GroupRow). g.to) c.group-2.ensures) in
-    let fits = c.free_bookings_fit.ensures v (begin m) (first.view_fits a o ready run cut c.args.from is_cut leaf c.args.id c.requires.leaf c.requires.serves windows v c.requires.laid pattern) e.free in
-    (
+    let fits = c.free_bookings_fit.ensures v (begin m) (first.view_fits a o ready run cut c.args.from is_cut leaf c.args.id c.requires.leaf c.requires.serves windows v c.requires.laid pattern) e.free in (
       first.from_at a o ready run cut c.args.from is_cut leaf c.args.id c.requires.leaf c.requires.serves windows v c.requires.laid pattern m e.start,
       first.lives_at a o ready run cut c.args.from is_cut leaf c.args.id c.requires.leaf c.requires.serves windows v c.requires.laid pattern m e.start fits,
       λ s from_s less live.

@@ -20,8 +20,7 @@ returns-clause-placed g c =
     let picks = c.args.picks.now in
     let ask = c.ask_for.ensures in
     let windows = sym c.lies_inside.ensures ∙ c.if-not-lies_inside.false in
-    let same = c.in_ok-kept.ensures.0 (c.if-not-kept.false) in
-    (
+    let same = c.in_ok-kept.ensures.0 (c.if-not-kept.false) in (
       λ e.
           let there = subst (λ (x : Ask). Fits a.tables ((other_asks a.tables a.group ++ asks_for a.group s picks) ++ x ∷ [])) ask (fits_laid a c.args.view.now s picks c.requires.laid c.ask_for.result (c.has_room-can.ensures.room.0 e)) in
           picks_more a.tables a.group s picks c.requires.placed c.args.leaf.now c.args.id c.requires.leaf c.requires.serves (c.goes_on.ensures.0 c.if-not-goes_on.false) windows same there,

@@ -30,14 +30,14 @@ loop-start-preserved c =
       none = λ s low less start. elim (cases_lt s c.loop-start.start) [
         | inl before ↦ h.none s low before start
         | inr here ↦ elim (cases_lt c.loop-start.start s) [
-            | inl behind ↦
-                let apart = steps_apart c.args.self.now.asked.group c.loop-start.start s h.steps (record { from = start.grid.from; steps = start.grid.steps }) behind in
-                omega (arith, apart, less, step)
-            | inr most ↦
-                let at : c.unwrap.result ≡ c.loop-start.start = (rw c.unwrap.ensures at c.of.ensures).1 in
-                let one : s ≡ c.unwrap.result = omega (arith, at, here, most) in
-                let kept = c.keeps_same.ensures.1 (subst (λ m. first_broken_same c.args.self.now.asked.tables m c.args.self.now.asked.group.nodes c.args.self.now.asked.group.leaves (c.args.self.now.pick ∷ []) ≡ None) one start.same) in
-                absurd (false≢true (sym c.if-keeps_same.false ∙ kept))
-          ]
+          | inl behind ↦
+              let apart = steps_apart c.args.self.now.asked.group c.loop-start.start s h.steps (record { from = start.grid.from; steps = start.grid.steps }) behind in
+              omega (arith, apart, less, step)
+          | inr most ↦
+              let at : c.unwrap.result ≡ c.loop-start.start = (rw c.unwrap.ensures at c.of.ensures).1 in
+              let one : s ≡ c.unwrap.result = omega (arith, at, here, most) in
+              let kept = c.keeps_same.ensures.1 (subst (λ m. first_broken_same c.args.self.now.asked.tables m c.args.self.now.asked.group.nodes c.args.self.now.asked.group.leaves (c.args.self.now.pick ∷ []) ≡ None) one start.same) in
+              absurd (false≢true (sym c.if-keeps_same.false ∙ kept))
+        ]
       ];
     }
