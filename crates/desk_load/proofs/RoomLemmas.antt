@@ -1,10 +1,10 @@
 -- Whether a booking has room on a resource, by what stands, what is laid on top and what the booking takes.
-use Rattle.std.proofs.Common.{◌≡◌, ℕ, ◌+◌, ◌≤◌, ◌<◌, Bool, true, false, cond, not, ◌||◌, ◌==◌, nat_le, nat_lt, List, [], ◌∷◌, ◌++◌, map, length, Option, Some, None, refl, sym, ap, ◌∙◌, subst, arith}
+use Rattle.std.proofs.Common.{◌≡◌, ℕ, ◌+◌, ◌≤◌, Bool, true, false, cond, not, ◌||◌, ◌==◌, nat_le, nat_lt, List, [], ◌∷◌, ◌++◌, map, length, Option, Some, None, refl, sym, ap, ◌∙◌, subst, arith}
 use Rattle.std.proofs.lemmas.Bool.{false≢true}
 use Rattle.std.proofs.lemmas.Bool.Decides.{nat_tests}
 use Rattle.std.proofs.lemmas.List.{length-map}
 use Rattle.std.proofs.lemmas.List.Sums.{sum_by-cons}
-use Rattle.std.specs.Prelude.{filter, find, sum_by, IfSome}
+use Rattle.std.specs.Prelude.{filter, find, IfSome}
 use Rattle.std.specs.List.{list_any}
 use Rattle.std.specs.Option.{option_map_or}
 use Rattle.desk_base.specs.declared.rows.tables.Tables.{Tables}
@@ -14,7 +14,7 @@ use Rattle.desk_base.specs.declared.rows.resources.ResourceRow.{ResourceRow}
 use Rattle.desk_base.specs.meaning.Capacity.{resource_of}
 use Rattle.desk_base.specs.rows.Ranges.{owns}
 use Rattle.desk_base.specs.rules.Sound.{AreWellFormed}
-use Rattle.desk_base.specs.meaning.Load.{unknown, sort_of_kind, load, weight, counts, room, ask_of, IsWithinRoom}
+use Rattle.desk_base.specs.meaning.Load.{unknown, sort_of_kind, load, weight, counts, room, ask_of}
 use Rattle.desk_load.specs.Views.{ViewParts, is_own, own_asks, other_asks, standing, HasRoomOn}
 use Rattle.desk_load.specs.declared.weights.Weight.{Weight}
 use Rattle.desk_load.specs.Index.{AreWeightsOf}

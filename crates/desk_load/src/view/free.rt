@@ -1,5 +1,5 @@
 //! The view itself: what it is built of, and what is laid on top.
-ghost use Rattle.std.specs.Prelude.{◌≡◌, ◌++◌, ◌∷◌, [], take, length, ◌-◌, map, filter, IfOk, OnOk, OnErr};
+ghost use Rattle.std.specs.Prelude.{◌≡◌, ◌++◌, ◌∷◌, [], take, length, ◌-◌, map, filter, None, IfOk, OnOk, OnErr};
 ghost use Rattle.desk_base.specs.meaning.Load.{ask_of};
 ghost use Rattle.desk_base.specs.rules.Sound.{AreWellFormed};
 ghost use Rattle.desk_load.specs.Index.{IsIndexOf};
@@ -84,6 +84,23 @@ impl<'a> FreeView<'a> {
             own,
             overlay: Vec::new(alloc),
         })
+    }
+
+    /// The view of all that stands, with nothing laid on top. It takes no memory.
+    pub fn of_all(alloc: Global, index: &'a LoadIndex, tables: &'a Tables) -> FreeView<'a>
+        requires well_formed { AreWellFormed tables.now }
+        requires index { IsIndexOf tables.now index.now }
+        ensures tables { result.tables ≡ tables.now }
+        ensures without { result.without ≡ None }
+        ensures overlay { result.overlay ≡ [] }
+    {
+        FreeView {
+            index,
+            tables,
+            without: None,
+            own: Vec::new(alloc),
+            overlay: Vec::new(alloc),
+        }
     }
 
     /// Lays one more booking on top. Want of memory leaves the view as it was.
