@@ -9,6 +9,7 @@ mod changes;
 mod effects;
 mod index;
 pub mod laws;
+mod limits;
 mod lists;
 mod parts;
 mod view;

@@ -6,13 +6,11 @@ ghost use Rattle.desk_load.specs.Index.{IsIndexOf};
 ghost use Rattle.desk_load.specs.Views.{own_asks};
 
 use crate::index::LoadIndex;
+use crate::limits::MOST_LAID;
 use crate::parts::ask_of;
 use desk_base::{Ask, BookingRow, GroupId, NoMemory, Tables};
 use std::alloc::Global;
 use std::marker::Model;
-
-/// How many bookings may be laid on a view.
-const MOST_LAID: usize = 4_194_304;
 
 /// A view of an index and its tables, which it borrows. Of the standing bookings those of one group are left out, and what is
 /// laid on top counts as if it stood.
@@ -28,6 +26,7 @@ pub struct FreeView<'a> {
 impl<'a> Model for FreeView<'a> {
     ghost use Rattle.std.specs.Prelude.{◌≡◌, ◌≤◌, length};
     ghost use Rattle.desk_base.specs.rules.Sound.{AreWellFormed};
+    ghost use Rattle.desk_load.specs.declared.limits.TheConstants.{MOST_LAID};
     ghost use Rattle.desk_load.specs.Index.{IsIndexOf};
     ghost use Rattle.desk_load.specs.Views.{ViewParts, own_asks};
 
@@ -35,7 +34,7 @@ impl<'a> Model for FreeView<'a> {
 
     ghost view = { λ v. record { tables = v.tables.now; without = v.without; overlay = v.overlay.items } };
 
-    ghost invariant = { λ v. AreWellFormed v.tables.now × IsIndexOf v.tables.now v.index.now × (v.own.items ≡ own_asks v.tables.now v.without) × (length v.overlay.items ≤ 4194304) };
+    ghost invariant = { λ v. AreWellFormed v.tables.now × IsIndexOf v.tables.now v.index.now × (v.own.items ≡ own_asks v.tables.now v.without) × (length v.overlay.items ≤ MOST_LAID) };
 }
 
 /// The bookings, as asks of their resources.
