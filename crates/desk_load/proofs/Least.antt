@@ -1,28 +1,26 @@
 -- The least booking that counts, resource by resource, and why no other counts.
-use Rattle.std.proofs.Common.{◌≡◌, ℕ, suc, ◌+◌, ◌≤◌, ◌<◌, Bool, true, false, cond, not, ◌&&◌, ◌||◌, ◌==◌, nat_lt, List, [], ◌∷◌, ◌++◌, map, length, take, drop, Option, Some, None, ◌⊎◌, inl, inr, refl, sym, ap, ◌∙◌, subst, arith}
+use Rattle.std.proofs.Common.{◌≡◌, ℕ, suc, ◌+◌, ◌≤◌, ◌<◌, Bool, true, false, cond, ◌&&◌, ◌||◌, ◌==◌, nat_lt, List, [], ◌∷◌, ◌++◌, length, take, drop, Option, Some, None, inl, inr, refl, sym, ap, ◌∙◌, subst, arith}
 use Rattle.std.proofs.lemmas.Bool.{false≢true}
 use Rattle.std.proofs.lemmas.Bool.Decides.{nat_tests}
 use Rattle.std.proofs.lemmas.List.{take-append-drop}
 use Rattle.std.proofs.Math.Seq.{drop-cons}
 use Rattle.std.specs.Prelude.{filter, find, sum_by, option_map, slice_index_or, IfSome}
-use Rattle.std.specs.List.{list_any, AllByRecursion}
+use Rattle.std.specs.List.{AllByRecursion}
 use Rattle.desk_base.specs.declared.rows.tables.Tables.{Tables}
 use Rattle.desk_base.specs.declared.rows.bookings.BookingRow.{BookingRow}
-use Rattle.desk_base.specs.declared.rows.resources.MemberRow.{MemberRow}
 use Rattle.desk_base.specs.declared.search.results.Ask.{Ask}
 use Rattle.desk_base.specs.meaning.Time.{covers}
-use Rattle.desk_base.specs.meaning.Load.{LoadSort, plain, crew, pool, unknown, sort_of, members, loads, own_load, plain_load, load, load_by, counts, ask_of}
+use Rattle.desk_base.specs.meaning.Load.{LoadSort, plain, crew, pool, unknown, sort_of, members, loads, own_load, plain_load, load_by, counts, ask_of}
 use Rattle.desk_base.specs.rows.Ranges.{Rise, IsUnder, owns}
 use Rattle.desk_base.specs.rules.Sound.{AreWellFormed}
 use Rattle.desk_base.proofs.tables.Rising.{bookings_rise}
 use Rattle.desk_base.proofs.lists.Members.{IsIn}
 use Rattle.desk_base.proofs.lists.Tests.{list_any_from, and_right}
 use Rattle.desk_member.proofs.MemberRows.{keys_rise}
-use Rattle.desk_member.specs.Memberships.{of_member}
 use Rattle.desk_member.specs.Spans.{rows_of_group}
 use Rattle.desk_load.specs.declared.view.places.Place.{Place}
 use Rattle.desk_load.specs.Views.{ViewParts, demand_at, demand_of}
-use Rattle.desk_load.specs.Scans.{plain_and_groups, members_and_groups, groups_at}
+use Rattle.desk_load.specs.Scans.{plain_and_groups, members_and_groups}
 use Rattle.desk_load.proofs.Used.{load_as, load_covered, load_missed, own_is, plain_is}
 use Rattle.desk_load.proofs.Scanned.{take_more, same, equal, sum_some, some_of_two, where_true, row_of_member, in_crew, loaded, groups_of}
 use Rattle.desk_load.specs.Shown.{least, counts_at, stands_on, first_of, first_on, bearing_by, bearing_on}

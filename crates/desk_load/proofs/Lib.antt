@@ -1,3 +1,5 @@
+pub mod Among
+pub mod Bounded
 pub mod Finding
 pub mod Following
 pub mod Grouped

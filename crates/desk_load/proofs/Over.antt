@@ -1,20 +1,36 @@
 -- The first place at which bookings are above the room, with a booking more.
-use Rattle.std.proofs.Common.{◌≡◌, ℕ, ◌+◌, ◌≤◌, ◌<◌, Bool, true, false, cond, ◌&&◌, ◌||◌, ◌==◌, nat_le, nat_lt, List, [], ◌∷◌, ◌++◌, Option, Some, None, ◌⊎◌, inl, inr, refl, sym, ap, ◌∙◌, subst, arith}
+use Rattle.std.proofs.Common.{◌≡◌, ℕ, ◌≤◌, ◌<◌, Bool, true, false, cond, List, [], ◌∷◌, ◌++◌, Option, Some, None, ◌⊎◌, inl, inr, refl, sym, subst, arith}
 use Rattle.std.proofs.lemmas.Bool.{cases_lt}
 use Rattle.std.proofs.lemmas.Bool.Decides.{nat_tests}
 use Rattle.std.specs.Prelude.{IfSome}
 use Rattle.desk_base.specs.declared.search.results.Ask.{Ask}
 use Rattle.desk_base.specs.declared.rows.tables.Tables.{Tables}
 use Rattle.desk_base.specs.rules.Limits.{first_minute, end_of_minutes}
-use Rattle.desk_base.specs.meaning.Time.{covers, IsMinute}
-use Rattle.desk_base.specs.meaning.Load.{weight, room, IsWithinRoom, Fits}
+use Rattle.desk_base.specs.meaning.Time.{IsMinute}
+use Rattle.desk_base.specs.meaning.Load.{weight, room, IsWithinRoom}
 use Rattle.desk_load.specs.declared.view.places.Place.{Place}
 use Rattle.desk_load.specs.declared.view.probe.Probe.{Probe}
 use Rattle.desk_load.specs.declared.view.probe.Probe.TheVariants.{Free, Short}
-use Rattle.desk_load.specs.Views.{ViewParts, HasRoomOn, HasRoomAt, IsFree, IsProbe, IsShortOn, standing}
+use Rattle.desk_load.specs.Views.{ViewParts, HasRoomAt, IsFree, IsProbe, IsShortOn, standing}
 use Rattle.desk_load.specs.Clashes.{is_before, earlier, after_probe, IsOver, IsFirstOver}
 use Rattle.desk_load.proofs.Weighed.{weight-append}
 use Rattle.desk_load.proofs.Whole.{free_fits, within_with}
+
+-- ---- which of two places comes first
+
+pub before_is : (p q : Place) → is_before p q ≡ true → (p.minute < q.minute) ⊎ ((p.minute ≡ q.minute) × (p.resource < q.resource))
+before_is p q e = elim (cases_lt p.minute q.minute) [ inl l ↦ inl l | inr l ↦ inr (by l) ]
+  where
+    by : q.minute ≤ p.minute → (p.minute ≡ q.minute) × (p.resource < q.resource)
+    by l = (let x : p.minute ≡ q.minute = grind (arith, nat_tests) in x, let y : p.resource < q.resource = grind (arith, nat_tests) in y)
+
+pub not_before : (p q : Place) → is_before p q ≡ false → (q.minute < p.minute) ⊎ ((q.minute ≡ p.minute) × (q.resource ≤ p.resource))
+not_before p q e = elim (cases_lt q.minute p.minute) [ inl l ↦ inl l | inr l ↦ inr (by l) ]
+  where
+    by : p.minute ≤ q.minute → (q.minute ≡ p.minute) × (q.resource ≤ p.resource)
+    by l = (let x : q.minute ≡ p.minute = grind (arith, nat_tests) in x, let y : q.resource ≤ p.resource = grind (arith, nat_tests) in y)
+
+-- ---- with a booking more
 
 module _ (v : ViewParts) (a : Ask) (low : first_minute ≤ a.window.from) (high : a.window.to ≤ end_of_minutes) where
   abbrev t : Tables
@@ -57,18 +73,6 @@ module _ (v : ViewParts) (a : Ask) (low : first_minute ≤ a.window.from) (high 
     sooner = λ q k i l. room_before r m f q k l (sooner q k i l);
     lower = λ q l. room_lower r m f q l (lower q l);
   }
-
-  before_is : (p q : Place) → is_before p q ≡ true → (p.minute < q.minute) ⊎ ((p.minute ≡ q.minute) × (p.resource < q.resource))
-  before_is p q e = elim (cases_lt p.minute q.minute) [ inl l ↦ inl l | inr l ↦ inr (by l) ]
-    where
-      by : q.minute ≤ p.minute → (p.minute ≡ q.minute) × (p.resource < q.resource)
-      by l = (let x : p.minute ≡ q.minute = grind (arith, nat_tests) in x, let y : p.resource < q.resource = grind (arith, nat_tests) in y)
-
-  not_before : (p q : Place) → is_before p q ≡ false → (q.minute < p.minute) ⊎ ((q.minute ≡ p.minute) × (q.resource ≤ p.resource))
-  not_before p q e = elim (cases_lt q.minute p.minute) [ inl l ↦ inl l | inr l ↦ inr (by l) ]
-    where
-      by : p.minute ≤ q.minute → (q.minute ≡ p.minute) × (q.resource ≤ p.resource)
-      by l = (let x : q.minute ≡ p.minute = grind (arith, nat_tests) in x, let y : q.resource ≤ p.resource = grind (arith, nat_tests) in y)
 
   keeps_found : (p : Place) (r m : ℕ) → IsOver t (standing v) p → IsFound r m → (p.minute < m) ⊎ ((p.minute ≡ m) × (p.resource ≤ r)) → IsOver t more p
   keeps_found p r m o f h = record {

@@ -1,10 +1,10 @@
 -- Whether a booking has room on a resource, by what stands, what is laid on top and what the booking takes.
-use Rattle.std.proofs.Common.{◌≡◌, ℕ, ◌+◌, ◌≤◌, ◌<◌, Bool, true, false, cond, not, ◌||◌, ◌==◌, nat_le, nat_lt, List, [], ◌∷◌, ◌++◌, map, length, Option, Some, None, refl, sym, ap, ◌∙◌, subst, arith}
+use Rattle.std.proofs.Common.{◌≡◌, ℕ, ◌+◌, ◌≤◌, Bool, true, false, cond, not, ◌||◌, ◌==◌, nat_le, nat_lt, List, [], ◌∷◌, ◌++◌, map, length, Option, Some, None, refl, sym, ap, ◌∙◌, subst, arith}
 use Rattle.std.proofs.lemmas.Bool.{false≢true}
 use Rattle.std.proofs.lemmas.Bool.Decides.{nat_tests}
 use Rattle.std.proofs.lemmas.List.{length-map}
 use Rattle.std.proofs.lemmas.List.Sums.{sum_by-cons}
-use Rattle.std.specs.Prelude.{filter, find, sum_by, IfSome}
+use Rattle.std.specs.Prelude.{filter, find, IfSome}
 use Rattle.std.specs.List.{list_any}
 use Rattle.std.specs.Option.{option_map_or}
 use Rattle.desk_base.specs.declared.rows.tables.Tables.{Tables}
@@ -14,10 +14,13 @@ use Rattle.desk_base.specs.declared.rows.resources.ResourceRow.{ResourceRow}
 use Rattle.desk_base.specs.meaning.Capacity.{resource_of}
 use Rattle.desk_base.specs.rows.Ranges.{owns}
 use Rattle.desk_base.specs.rules.Sound.{AreWellFormed}
-use Rattle.desk_base.specs.meaning.Load.{unknown, sort_of_kind, load, weight, counts, room, ask_of, IsWithinRoom}
+use Rattle.desk_base.specs.meaning.Load.{unknown, sort_of_kind, load, weight, counts, room, ask_of}
 use Rattle.desk_load.specs.Views.{ViewParts, is_own, own_asks, other_asks, standing, HasRoomOn}
 use Rattle.desk_load.specs.declared.weights.Weight.{Weight}
 use Rattle.desk_load.specs.Index.{AreWeightsOf}
+use Rattle.desk_load.specs.declared.limits.TheConstants.{MOST_LAID}
+use Rattle.desk_base.specs.declared.rows.tables.Table.TheVariants.{Member as MemberTable}
+use Rattle.desk_base.specs.rules.TableLimits.{limit_of}
 use Rattle.desk_base.specs.declared.rows.resources.MemberRow.{MemberRow}
 use Rattle.desk_member.specs.Spans.{rows_of_group}
 use Rattle.desk_member.proofs.SumLemmas.{sum_zeros}
@@ -112,11 +115,11 @@ few_filtered p (x ∷ xs) = step (p x) (few_filtered p xs)
     step true h = omega arith
     step false h = omega arith
 
-pub few_own : (t : Tables) (without : Option ℕ) → AreWellFormed t → length (own_asks t without) ≤ 4194304
+pub few_own : (t : Tables) (without : Option ℕ) → AreWellFormed t → length (own_asks t without) ≤ MOST_LAID
 few_own t without w = omega (arith, few_bookings t w, length-map t.bookings ask_of, length-map (filter (is_own without) t.bookings) ask_of, few_filtered (is_own without) t.bookings)
 
 pub enough_is : (w o s l n b : ℕ) → w + o ≡ s + l → nat_le (w + n) b ≡ nat_le (s + l + n) (b + o)
 enough_is w o s l n b e = grind (arith, nat_tests)
 
-pub few_rows : (t : Tables) (g : ℕ) → AreWellFormed t → length (rows_of_group t g) ≤ 20000
+pub few_rows : (t : Tables) (g : ℕ) → AreWellFormed t → length (rows_of_group t g) ≤ limit_of MemberTable
 few_rows t g w = omega (arith, few_members t w, few_filtered (λ (x : MemberRow). x.group == g) t.members)

@@ -1,36 +1,33 @@
 -- Resources that were looked at one after another, and why no other counts.
-use Rattle.std.proofs.Common.{◌≡◌, ℕ, zero, suc, ◌+◌, ◌≤◌, ◌<◌, Bool, true, false, cond, ◌&&◌, ◌||◌, ◌==◌, nat_le, nat_lt, min, List, [], ◌∷◌, ◌++◌, map, length, take, Option, Some, None, ◌⊎◌, inl, inr, refl, sym, ap, ◌∙◌, subst, arith}
+use Rattle.std.proofs.Common.{◌≡◌, ℕ, suc, ◌+◌, ◌≤◌, ◌<◌, Bool, true, false, cond, ◌||◌, ◌==◌, nat_lt, min, List, [], ◌∷◌, ◌++◌, map, length, take, Option, Some, None, ◌⊎◌, inl, inr, refl, sym, ap, ◌∙◌, subst, arith}
 use Rattle.std.proofs.lemmas.Bool.{false≢true, cases_lt}
 use Rattle.std.proofs.lemmas.Bool.Decides.{nat_tests}
 use Rattle.std.proofs.lemmas.List.Sums.{sum_by-cons}
 use Rattle.std.proofs.Math.Seq.{take-suc}
 use Rattle.std.specs.Prelude.{filter, sum_by, slice_index_or, Contains}
-use Rattle.std.specs.List.{list_any}
 use Rattle.desk_base.specs.declared.rows.tables.Tables.{Tables}
 use Rattle.desk_base.specs.declared.rows.resources.MemberRow.{MemberRow}
-use Rattle.desk_base.specs.declared.search.results.Ask.{Ask}
 use Rattle.desk_base.specs.meaning.Time.{covers}
-use Rattle.desk_base.specs.meaning.Load.{LoadSort, plain, crew, pool, unknown, sort_of, is_crew, members, loads, own_load, plain_load, load, load_by, counts}
+use Rattle.desk_base.specs.meaning.Load.{LoadSort, plain, crew, pool, unknown, sort_of, is_crew, members, loads, own_load, plain_load, load_by, counts}
 use Rattle.desk_base.specs.rules.Limits.{end_of_minutes}
 use Rattle.desk_base.specs.rules.Sound.{AreWellFormed}
 use Rattle.desk_base.proofs.lists.Members.{IsIn, in-append, in_left, in_right, in-map, in_mapped, in-filter, in_filtered, contains_from_in, in_from_contains}
-use Rattle.desk_base.proofs.lists.Tests.{list_any_at, and_left, and_right, and_both}
+use Rattle.desk_base.proofs.lists.Tests.{list_any_at, and_left, and_right}
 use Rattle.desk_base.proofs.meaning.Pools.{members_plain}
 use Rattle.desk_spans.specs.Minutes.{EachMinute}
 use Rattle.desk_member.specs.Memberships.{of_member}
 use Rattle.desk_member.specs.Spans.{rows_of_group}
 use Rattle.desk_load.specs.declared.view.demand.Demand.{Demand}
-use Rattle.desk_load.specs.Views.{ViewParts, HasRoomOn, HasRoomAt, IsShortOn, demand_at}
-use Rattle.desk_load.specs.Steady.{Stays}
+use Rattle.desk_load.specs.Views.{ViewParts, HasRoomOn, demand_at}
 use Rattle.desk_load.specs.Scans.{IsLeastShort, IsScan, IsShortAt, groups_at, plain_and_groups, members_and_groups, counted_by, counted_on, lesser}
 use Rattle.desk_load.proofs.Used.{load_as, own_is, plain_is, joins}
 
 -- ---- one resource more
 
-module _ (v : ViewParts) (d : Demand) where
-  either : (seen : List ℕ) (r q : ℕ) → Contains (seen ++ r ∷ []) q → Contains seen q ⊎ (q ≡ r)
-  either seen r q c = elim (in-append q seen (r ∷ []) (in_from_contains (seen ++ r ∷ []) q c)) [ inl i ↦ inl (contains_from_in seen q i) | inr i ↦ elim i [ inl e ↦ inr e | inr j ↦ absurd j ] ]
+pub either : (seen : List ℕ) (r q : ℕ) → Contains (seen ++ r ∷ []) q → Contains seen q ⊎ (q ≡ r)
+either seen r q c = elim (in-append q seen (r ∷ []) (in_from_contains (seen ++ r ∷ []) q c)) [ inl i ↦ inl (contains_from_in seen q i) | inr i ↦ elim i [ inl e ↦ inr e | inr j ↦ absurd j ] ]
 
+module _ (v : ViewParts) (d : Demand) where
   least_kept : (seen : List ℕ) (r k : ℕ) (short : Option ℕ) → HasRoomOn v (demand_at d k) k r → IsLeastShort v d seen k short → IsLeastShort v d (seen ++ r ∷ []) k short
   least_kept seen r k None h l = λ q c. elim (either seen r q c) [ inl i ↦ l q i | inr e ↦ subst (HasRoomOn v (demand_at d k) k) (sym e) h ]
   least_kept seen r k (Some x) h l = (l.0, λ q c u. elim (either seen r q c) [ inl i ↦ l.1 q i u | inr e ↦ subst (HasRoomOn v (demand_at d k) k) (sym e) h ])

@@ -1,7 +1,6 @@
 -- What a booking takes of resources, minute by minute and through memberships.
-use Rattle.std.proofs.Common.{◌≡◌, ℕ, ◌+◌, ◌<◌, ◌≤◌, Bool, true, false, cond, not, ◌&&◌, ◌||◌, ◌==◌, nat_le, nat_lt, List, [], ◌∷◌, map, Some, None, refl, sym, ap, ◌∙◌, subst, arith}
+use Rattle.std.proofs.Common.{◌≡◌, ℕ, ◌+◌, Bool, true, false, cond, not, ◌&&◌, ◌||◌, ◌==◌, List, [], ◌∷◌, map, Some, None, refl, sym, ap, ◌∙◌, arith}
 use Rattle.std.proofs.lemmas.Bool.Decides.{nat_tests}
-use Rattle.std.proofs.lemmas.List.Sums.{sum_by-cons}
 use Rattle.std.specs.Prelude.{filter, sum_by}
 use Rattle.std.specs.List.{list_any}
 use Rattle.desk_base.specs.declared.rows.tables.Tables.{Tables}
@@ -9,8 +8,8 @@ use Rattle.desk_base.specs.declared.rows.resources.MemberRow.{MemberRow}
 use Rattle.desk_base.specs.declared.search.results.Ask.{Ask}
 use Rattle.desk_base.specs.meaning.Time.{covers}
 use Rattle.desk_base.specs.meaning.Capacity.{capacity}
-use Rattle.desk_base.specs.meaning.Load.{LoadSort, plain, crew, pool, unknown, sort_of, is_crew, members, loads, effort_at, own_load, plain_load, load, load_by, room, room_by, room_of_crew}
-use Rattle.desk_member.specs.Memberships.{of_member, AreMemberships}
+use Rattle.desk_base.specs.meaning.Load.{LoadSort, plain, crew, pool, unknown, sort_of, members, loads, own_load, plain_load, load, load_by, room, room_by, room_of_crew}
+use Rattle.desk_member.specs.Memberships.{of_member}
 use Rattle.desk_member.specs.Spans.{rows_of_group}
 use Rattle.desk_member.proofs.SumLemmas.{sum_filter, sum_map, sum_zeros, sum_same}
 use Rattle.desk_load.specs.declared.view.demand.Demand.{Demand}

@@ -1,9 +1,11 @@
 -- The definitions that contracts cite.
+pub mod Boards
 pub mod Changed
 pub mod Clashes
 pub mod Effects
 pub mod Index
 pub mod Lists
+pub mod Overs
 pub mod Parted
 pub mod Parts
 pub mod Prepared

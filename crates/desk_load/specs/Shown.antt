@@ -1,5 +1,5 @@
 -- The least booking that counts at a place.
-use Rattle.std.specs.Prelude.{ℕ, Bool, not, ◌&&◌, ◌||◌, ◌==◌, nat_lt, List, [], ◌∷◌, find, filter, Option, Some, None, option_map, if◌then◌else◌}
+use Rattle.std.specs.Prelude.{ℕ, Bool, not, ◌&&◌, ◌==◌, nat_lt, List, [], ◌∷◌, find, Option, Some, None, option_map, if◌then◌else◌}
 use Rattle.std.specs.List.{list_any}
 use Rattle.desk_base.specs.declared.rows.tables.Tables.{Tables}
 use Rattle.desk_base.specs.declared.rows.bookings.BookingRow.{BookingRow}

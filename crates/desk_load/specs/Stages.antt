@@ -5,9 +5,11 @@ use Rattle.std.specs.List.Sorted.{IsStrictlySortedBy}
 use Rattle.desk_base.specs.declared.rows.tables.Tables.{Tables}
 use Rattle.desk_base.specs.declared.rows.bookings.BookingRow.{BookingRow}
 use Rattle.desk_base.specs.declared.rows.tables.AnyRow.TheVariants.{Booking}
+use Rattle.desk_base.specs.declared.rows.tables.Table.TheVariants.{Booking as BookingTable}
 use Rattle.desk_base.specs.rows.Keys.{key_cmp}
 use Rattle.desk_base.specs.rows.Lookups.{keys_by}
 use Rattle.desk_base.specs.rules.Limits.{effort_limit}
+use Rattle.desk_base.specs.rules.Sound.{taken_limit_of}
 use Rattle.desk_base.specs.meaning.Capacity.{resource_of}
 use Rattle.desk_load.specs.Parted.{IndexParts}
 use Rattle.desk_load.specs.Index.{IsIndexOf, group_numbers}
@@ -21,7 +23,7 @@ pub record IsUsable (t : Tables) (b : BookingRow) : Type 0 where
 
 -- as many bookings as well-formed tables have at most
 abbrev pub most_bookings : ℕ
-most_bookings = 4000000
+most_bookings = taken_limit_of BookingTable
 
 -- the index is one of tables s, which have the resources, the memberships and at least the groups of the tables t, and usable bookings; each booking from the number `next` on is one of t, and there may be so many more
 pub record IsStage (t s : Tables) (next more : ℕ) (i : IndexParts) : Type 0 where

@@ -1,5 +1,5 @@
 -- What stays the same for some minutes.
-use Rattle.std.specs.Prelude.{ℕ, ◌≡◌, ◌<◌, ◌≤◌, Bool, Option}
+use Rattle.std.specs.Prelude.{ℕ, ◌≡◌, ◌<◌, ◌≤◌}
 use Rattle.desk_base.specs.rules.Limits.{end_of_minutes}
 use Rattle.desk_spans.specs.Minutes.{EachMinute}
 

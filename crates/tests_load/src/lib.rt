@@ -5,6 +5,10 @@
 #[cfg(test)]
 mod calendar;
 #[cfg(test)]
+mod load;
+#[cfg(test)]
 mod member;
 #[cfg(test)]
 mod schedules;
+#[cfg(test)]
+mod teams;

@@ -1,6 +1,7 @@
 //! The trial tables, and rows that are put among theirs.
 ghost use Rattle.std.specs.Prelude.{◌≡◌, IfOk, IfSome};
 ghost use Rattle.desk_base.specs.rows.Lookups.{KeysRise};
+ghost use Rattle.desk_base.specs.rows.Trial.{trial};
 ghost use Rattle.desk_base.specs.rules.Sound.{AreWellFormed};
 
 use desk_base::laws::{sound_tables_are_well_formed, trial_is_sound};
@@ -20,11 +21,14 @@ pub const NINE: u32 = 28_935_900;
 
 pub const TEN: u32 = 28_935_960;
 
+pub const ELEVEN: u32 = 28_936_020;
+
 pub const NOON: u32 = 28_936_080;
 
 /// The trial tables: 1 and 2 work on Monday from 08:00 to 12:00, and 3 from 10:00.
 #[tactic(auto, using(desk_member::proofs::MemberRows::keys_rise))]
 pub fn trial(alloc: Global) -> Result<Tables, NoMemory>
+    ensures same { IfOk result (λ t. t ≡ trial) }
     ensures well_formed { IfOk result AreWellFormed }
     ensures rise { IfOk result KeysRise }
 {

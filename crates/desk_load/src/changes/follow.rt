@@ -17,12 +17,10 @@ use crate::changes::opened::OpenIndex;
 use crate::changes::turns::Turn;
 use crate::effects::is_indexed;
 use crate::index::list_under;
+use crate::limits::MOST_BOOKINGS;
 use desk_base::limits::EFFORT_LIMIT;
 use desk_base::{AnyRow, BookingId, BookingRow, Change, Key, NoMemory, Table, Tables};
 use std::alloc::Global;
-
-/// As many bookings as well-formed tables have at most.
-const MOST_BOOKINGS: usize = 4_000_000;
 
 /// Why an index does not follow a change.
 pub(crate) enum Stop {

@@ -1,9 +1,9 @@
 //! The clash of bookings that are asked for with those that stand.
-ghost use Rattle.std.specs.Prelude.{◌≡◌, ◌++◌, ◌≤◌, ◌<◌, ◌^◌, ◌*◌, not, length, filter, Some, None, IfOk, MatchOption};
+ghost use Rattle.std.specs.Prelude.{◌≡◌, ◌++◌, ◌≤◌, ◌<◌, ◌^◌, ◌*◌, [], ℕ, not, length, map, filter, Some, None, IfOk, MatchOption, Contains};
 ghost use Rattle.std.specs.Option.{option_map_or};
 ghost use Rattle.desk_base.specs.declared.asked.refusals.Shown.TheVariants.{Booking, Gap};
 ghost use Rattle.desk_base.specs.asked.Steps.{IsConflict};
-ghost use Rattle.desk_base.specs.meaning.Load.{Fits, room, weight};
+ghost use Rattle.desk_base.specs.meaning.Load.{Fits, room, weight, ask_of, IsWithinRoom};
 ghost use Rattle.desk_base.specs.meaning.Time.{IsMinute};
 ghost use Rattle.desk_base.specs.rules.Sound.{AreWellFormed};
 ghost use Rattle.desk_load.specs.Clashes.{IsOver};
@@ -13,7 +13,7 @@ ghost use Rattle.desk_load.specs.Views.{is_own, other_asks};
 use crate::index::LoadIndex;
 use crate::view::free::FreeView;
 use crate::view::places::Place;
-use desk_base::{Ask, BookingId, Clash, GroupId, Minute, NoMemory, Shown, Tables};
+use desk_base::{Ask, BookingId, Clash, GroupId, Minute, NoMemory, ResourceId, Shown, Tables};
 use std::alloc::Global;
 
 fn shown_of(found: Option<BookingId>) -> Shown
@@ -101,5 +101,27 @@ pub fn clash(
     match view.lay_all(asks)? {
         Some(place) => Ok(Some(view.clash_at(asks, &place))),
         None => Ok(None),
+    }
+}
+
+/// The clash of the standing bookings themselves, where each resource that is not named is within its room: the least minute, and
+/// there the least resource, at which they are above the room. `None` exactly where they fit. It judges tables after a change of
+/// rows that say when resources have room: the resources named are those that the change touches. It looks at each of them
+/// while something stands on it, and no further than the first minute that was found.
+pub fn clash_standing(
+    alloc: Global,
+    index: &LoadIndex,
+    tables: &Tables,
+    suspects: &[ResourceId],
+) -> Option<Clash>
+    requires well_formed { AreWellFormed tables.now }
+    requires index { IsIndexOf tables.now index.now }
+    requires others { (r m : ℕ) → IsMinute m → (Contains suspects.now r → ⊥) → IsWithinRoom tables.now (map ask_of tables.now.bookings) r m }
+    ensures { MatchOption result (Fits tables.now (map ask_of tables.now.bookings)) (λ c. IsConflict tables.now tables.now.bookings [] c) }
+{
+    let view = FreeView::of_all(alloc, index, tables);
+    match view.first_over(suspects) {
+        Some(place) => Some(view.clash_at(&[], &place)),
+        None => None,
     }
 }

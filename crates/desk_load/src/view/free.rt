@@ -1,18 +1,16 @@
 //! The view itself: what it is built of, and what is laid on top.
-ghost use Rattle.std.specs.Prelude.{◌≡◌, ◌++◌, ◌∷◌, [], take, length, ◌-◌, map, filter, IfOk, OnOk, OnErr};
+ghost use Rattle.std.specs.Prelude.{◌≡◌, ◌++◌, ◌∷◌, [], take, length, ◌-◌, map, filter, None, IfOk, OnOk, OnErr};
 ghost use Rattle.desk_base.specs.meaning.Load.{ask_of};
 ghost use Rattle.desk_base.specs.rules.Sound.{AreWellFormed};
 ghost use Rattle.desk_load.specs.Index.{IsIndexOf};
 ghost use Rattle.desk_load.specs.Views.{own_asks};
 
 use crate::index::LoadIndex;
+use crate::limits::MOST_LAID;
 use crate::parts::ask_of;
 use desk_base::{Ask, BookingRow, GroupId, NoMemory, Tables};
 use std::alloc::Global;
 use std::marker::Model;
-
-/// How many bookings may be laid on a view.
-const MOST_LAID: usize = 4_194_304;
 
 /// A view of an index and its tables, which it borrows. Of the standing bookings those of one group are left out, and what is
 /// laid on top counts as if it stood.
@@ -28,6 +26,7 @@ pub struct FreeView<'a> {
 impl<'a> Model for FreeView<'a> {
     ghost use Rattle.std.specs.Prelude.{◌≡◌, ◌≤◌, length};
     ghost use Rattle.desk_base.specs.rules.Sound.{AreWellFormed};
+    ghost use Rattle.desk_load.specs.declared.limits.TheConstants.{MOST_LAID};
     ghost use Rattle.desk_load.specs.Index.{IsIndexOf};
     ghost use Rattle.desk_load.specs.Views.{ViewParts, own_asks};
 
@@ -35,7 +34,7 @@ impl<'a> Model for FreeView<'a> {
 
     ghost view = { λ v. record { tables = v.tables.now; without = v.without; overlay = v.overlay.items } };
 
-    ghost invariant = { λ v. AreWellFormed v.tables.now × IsIndexOf v.tables.now v.index.now × (v.own.items ≡ own_asks v.tables.now v.without) × (length v.overlay.items ≤ 4194304) };
+    ghost invariant = { λ v. AreWellFormed v.tables.now × IsIndexOf v.tables.now v.index.now × (v.own.items ≡ own_asks v.tables.now v.without) × (length v.overlay.items ≤ MOST_LAID) };
 }
 
 /// The bookings, as asks of their resources.
@@ -84,6 +83,23 @@ impl<'a> FreeView<'a> {
             own,
             overlay: Vec::new(alloc),
         })
+    }
+
+    /// The view of all that stands, with nothing laid on top. It takes no memory.
+    pub fn of_all(alloc: Global, index: &'a LoadIndex, tables: &'a Tables) -> FreeView<'a>
+        requires well_formed { AreWellFormed tables.now }
+        requires index { IsIndexOf tables.now index.now }
+        ensures tables { result.tables ≡ tables.now }
+        ensures without { result.without ≡ None }
+        ensures overlay { result.overlay ≡ [] }
+    {
+        FreeView {
+            index,
+            tables,
+            without: None,
+            own: Vec::new(alloc),
+            overlay: Vec::new(alloc),
+        }
     }
 
     /// Lays one more booking on top. Want of memory leaves the view as it was.

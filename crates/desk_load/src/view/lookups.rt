@@ -1,6 +1,8 @@
 //! What a view looks up in its tables and in its index.
 ghost use Rattle.std.specs.Prelude.{◌≡◌, ◌≤◌, length, filter};
+ghost use Rattle.desk_base.specs.declared.rows.tables.Table.TheVariants.{Member as MemberTable};
 ghost use Rattle.desk_base.specs.rows.Ranges.{owns};
+ghost use Rattle.desk_base.specs.rules.TableLimits.{limit_of};
 ghost use Rattle.desk_base.specs.meaning.Load.{sort_of};
 ghost use Rattle.desk_member.specs.Memberships.{of_member};
 ghost use Rattle.desk_member.specs.Spans.{rows_of_group};
@@ -23,7 +25,7 @@ impl FreeView<'_> {
     #[tactic(auto, using(desk_member::proofs::MemberRows::keys_rise))]
     pub(crate) fn rows_of(&self, group: ResourceId) -> &[MemberRow]
         ensures rows { result.now ≡ rows_of_group self.now.tables group }
-        ensures few { length result.now ≤ 20000 }
+        ensures few { length result.now ≤ limit_of MemberTable }
     {
         self.tables.memberships_of(group)
     }

@@ -24,7 +24,7 @@ fn is_before(first: &Place, second: &Place) -> bool
 }
 
 /// The earlier of a place and of one that was found before.
-fn earlier(found: Option<Place>, place: Place) -> Place
+pub fn earlier(found: Option<Place>, place: Place) -> Place
     ensures { result ≡ earlier found place }
 {
     match found {

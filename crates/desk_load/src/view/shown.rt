@@ -19,24 +19,10 @@ use desk_base::{BookingId, BookingRow, GroupId, MemberRow, ResourceId};
 fn least(found: Option<BookingId>, other: Option<BookingId>) -> Option<BookingId>
     ensures { result ≡ least found other }
 {
-    match found {
-        None => other,
-        Some(id) => lesser(id, other),
-    }
-}
-
-fn lesser(id: BookingId, other: Option<BookingId>) -> Option<BookingId>
-    ensures { result ≡ least (Some id) other }
-{
-    match other {
-        None => Some(id),
-        Some(new) => {
-            if new.get() < id.get() {
-                Some(new)
-            } else {
-                Some(id)
-            }
-        }
+    match (found, other) {
+        (None, _) => other,
+        (Some(_), None) => found,
+        (Some(id), Some(new)) => { if new.get() < id.get() { other } else { found } }
     }
 }
 

@@ -2,6 +2,7 @@
 ghost use Rattle.std.specs.Prelude.{◌≡◌, ℕ, ◌<◌, ◌≤◌, ◌^◌, ◌*◌, length, sum_by, if◌then◌else◌};
 ghost use Rattle.desk_base.specs.meaning.Load.{members, loads, own_load, plain_load, load, weight};
 ghost use Rattle.desk_base.specs.rules.Limits.{end_of_minutes};
+ghost use Rattle.desk_load.specs.declared.limits.TheConstants.{MOST_LAID};
 ghost use Rattle.desk_load.specs.Steady.{Stays};
 ghost use Rattle.desk_load.specs.Uses.{share_through};
 ghost use Rattle.desk_load.specs.Views.{demand_at};
@@ -142,7 +143,7 @@ impl FreeView<'_> {
     /// What asks take of a resource together.
     pub(crate) fn weight_of(&self, asks: &[Ask], resource: ResourceId, minute: u32) -> Steady
         requires minute { minute < end_of_minutes }
-        requires few { length asks.now ≤ 4194304 }
+        requires few { length asks.now ≤ MOST_LAID }
         ensures taken { Stays (weight self.now.tables asks.now resource) minute result.value result.until }
         ensures small { result.value ≤ length asks.now * 2 ^ 48 }
     {

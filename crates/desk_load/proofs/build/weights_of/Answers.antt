@@ -1,10 +1,9 @@
-use Rattle.std.proofs.Common.{◌≡◌, ℕ, ◌+◌, ◌<◌, ◌≤◌, ◌++◌, ◌∷◌, [], ◌∙◌, sym, ap, subst, pos, map, take, length, arith, refl}
+use Rattle.std.proofs.Common.{◌≡◌, ℕ, ◌+◌, ◌++◌, ◌∷◌, [], ◌∙◌, sym, ap, subst, pos, map, take}
 use Rattle.std.proofs.lemmas.List.{take_more}
-use Rattle.std.specs.Prelude.{sum_by}
 use Rattle.std.specs.List.{AllByRecursion}
 use Rattle.desk_base.specs.declared.rows.resources.ResourceRow.{ResourceRow}
 use Rattle.desk_load.specs.declared.weights.Weight.{Weight}
-use Rattle.desk_load.specs.Index.{IsWeightOf, AreWeightsOf}
+use Rattle.desk_load.specs.Index.{IsWeightOf}
 use Rattle.desk_load.proofs.Numbers.{all_more, map_more, take_every}
 use Rattle.desk_load.proofs.build.weights_of.Goals as goal
 

@@ -1,9 +1,8 @@
-use Rattle.std.proofs.Common.{◌≡◌, ℕ, ◌+◌, List, ◌++◌, ◌∷◌, [], ◌∙◌, sym, ap, map, take, get_or}
+use Rattle.std.proofs.Common.{◌≡◌, ℕ, List, ◌++◌, ◌∷◌, [], ◌∙◌, sym, ap, map, take, get_or}
 use Rattle.std.proofs.lemmas.List.{take_more}
 use Rattle.std.specs.Prelude.{filter}
 use Rattle.desk_base.specs.declared.rows.bookings.BookingRow.{BookingRow}
 use Rattle.desk_base.specs.rows.Ranges.{owns}
-use Rattle.desk_load.specs.declared.lists.BookingList.{BookingList}
 use Rattle.desk_load.specs.declared.lists.Owned.{Owned}
 use Rattle.desk_load.specs.Lists.{owned_bookings}
 use Rattle.desk_load.proofs.Numbers.{map_more}

@@ -1,5 +1,4 @@
-use Rattle.std.proofs.Common.{◌≡◌, ℕ, ◌≤◌, ◌∙◌, sym, ap, pos, subst, arith, map}
-use Rattle.std.proofs.lemmas.Int.{ints}
+use Rattle.std.proofs.Common.{◌≤◌, ◌∙◌, sym, ap, pos, subst, map}
 use Rattle.std.specs.Prelude.{sum_by}
 use Rattle.desk_spans.specs.Pieces.{sum_at}
 use Rattle.desk_spans.specs.Timeline.{value_limit, IsBounded}

@@ -1,4 +1,4 @@
-use Rattle.std.proofs.Common.{◌≡◌, sym, ap, subst, ◌∙◌}
+use Rattle.std.proofs.Common.{sym, subst}
 use Rattle.desk_base.specs.rows.Lookups.{KeysRise}
 use Rattle.desk_base.proofs.tables.KeyRises.{rise-with_change}
 use Rattle.tests_load.proofs.schedules.with_rows.Goals as goal

@@ -1,4 +1,4 @@
-use Rattle.std.proofs.Common.{◌≡◌, not, filter, ◌∙◌, subst}
+use Rattle.std.proofs.Common.{not, filter, ◌∙◌, subst}
 use Rattle.desk_base.specs.asked.Steps.{IsConflict}
 use Rattle.desk_load.specs.Views.{is_own}
 use Rattle.desk_load.proofs.view.clash.clash.Goals as goal

@@ -1,8 +1,8 @@
-use Rattle.std.proofs.Common.{◌≡◌, false, map, refl, sym, ap, ◌∙◌}
+use Rattle.std.proofs.Common.{false, map, refl, sym, ap, ◌∙◌}
 use Rattle.desk_base.specs.meaning.Load.{ask_of}
 use Rattle.desk_base.specs.declared.rows.bookings.BookingRow.{BookingRow}
 use Rattle.desk_base.proofs.lists.Filtered.{none_pass}
-use Rattle.desk_load.specs.Views.{own_asks, is_own}
+use Rattle.desk_load.specs.Views.{own_asks}
 use Rattle.desk_load.proofs.view.free.own_asks.Goals as goal
 
 pub returns-in-None : goal.returns-in-None

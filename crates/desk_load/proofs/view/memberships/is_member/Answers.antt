@@ -1,8 +1,7 @@
-use Rattle.std.proofs.Common.{◌≡◌, ℕ, ◌∙◌, refl, sym, ap, subst, arith, ◌==◌}
+use Rattle.std.proofs.Common.{ℕ, ◌∙◌, sym, ap, arith, ◌==◌}
 use Rattle.std.specs.List.{list_any}
 use Rattle.desk_base.specs.declared.rows.resources.MemberRow.{MemberRow}
 use Rattle.desk_base.specs.meaning.Load.{members}
-use Rattle.desk_base.specs.rules.Limits.{end_of_minutes}
 use Rattle.desk_load.proofs.Staying.{stays_as, any_stays}
 use Rattle.desk_load.proofs.Used.{joins, member_by_rows}
 use Rattle.desk_load.proofs.view.memberships.is_member.Goals as goal

@@ -1,8 +1,7 @@
-use Rattle.std.proofs.Common.{◌≡◌, ℕ, ◌<◌, ◌≤◌, Bool, true, cond, Some, None, ◌∙◌, refl, sym, ap, arith}
+use Rattle.std.proofs.Common.{ℕ, true, cond, Some, None, ◌∙◌, sym, ap}
 use Rattle.std.specs.List.{list_any}
 use Rattle.desk_base.specs.declared.rows.resources.MemberRow.{MemberRow}
 use Rattle.desk_base.specs.meaning.Time.{covers}
-use Rattle.desk_base.specs.meaning.Load.{members, room_of_crew}
 use Rattle.desk_load.proofs.Staying.{any_stays}
 use Rattle.desk_load.proofs.Used.{crew_room_by_rows}
 use Rattle.desk_load.proofs.view.free.FreeView.crew_room.Goals as goal

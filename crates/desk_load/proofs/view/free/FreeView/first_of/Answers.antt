@@ -1,6 +1,5 @@
-use Rattle.std.proofs.Common.{◌≡◌, ℕ, ◌+◌, Some, None, take, refl, sym, ap, ◌∙◌}
-use Rattle.std.proofs.lemmas.List.{take_all}
-use Rattle.std.specs.Prelude.{find, option_map}
+use Rattle.std.proofs.Common.{sym, ap, ◌∙◌}
+use Rattle.std.specs.Prelude.{option_map}
 use Rattle.desk_base.specs.declared.rows.bookings.BookingRow.{BookingRow}
 use Rattle.desk_load.specs.Shown.{counts_at}
 use Rattle.desk_load.proofs.Least.{found_at, none_more}

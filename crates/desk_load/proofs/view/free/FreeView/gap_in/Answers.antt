@@ -1,4 +1,4 @@
-use Rattle.std.proofs.Common.{◌≡◌, ℕ, ◌<◌, ◌≤◌, Some, None, inl, inr, refl, sym, subst, arith}
+use Rattle.std.proofs.Common.{inl, inr, subst, arith}
 use Rattle.std.proofs.lemmas.Bool.{cases_lt}
 use Rattle.desk_load.specs.Scans.{IsShortAt}
 use Rattle.desk_load.proofs.view.free.FreeView.gap_in.Goals as goal

@@ -1,9 +1,5 @@
-use Rattle.std.proofs.Common.{◌≡◌, ℕ, ◌+◌, ◌<◌, ◌≤◌, nat_le, length, map, filter, min, refl, sym, ap, ◌∙◌, subst, arith}
-use Rattle.std.proofs.lemmas.List.{length-map}
-use Rattle.desk_base.specs.declared.rows.tables.Tables.{Tables}
-use Rattle.desk_base.specs.declared.rows.tables.Table.TheVariants.{Booking as BookingTable}
-use Rattle.desk_base.specs.declared.rows.tables.AnyRow.TheVariants.{Booking}
-use Rattle.desk_base.specs.meaning.Load.{weight, ask_of}
+use Rattle.std.proofs.Common.{◌≡◌, ℕ, length, sym, ap, ◌∙◌, arith}
+use Rattle.desk_base.specs.meaning.Load.{weight}
 use Rattle.desk_load.specs.Views.{ViewParts, standing, own_asks}
 use Rattle.desk_load.proofs.RoomLemmas.{weight_standing, few_own, enough_is}
 use Rattle.desk_load.proofs.view.free.FreeView.has_room_within.Goals as goal

@@ -1,6 +1,5 @@
-use Rattle.std.proofs.Common.{◌≡◌, ℕ, ◌+◌, ◌<◌, ◌≤◌, true, false, List, [], ◌∷◌, ◌++◌, take, length, None, refl, sym, ap, ◌∙◌, subst, arith}
+use Rattle.std.proofs.Common.{◌≡◌, ℕ, ◌+◌, [], ◌∷◌, ◌++◌, take, None, refl, sym, ap, ◌∙◌, subst}
 use Rattle.std.proofs.lemmas.List.{take_all}
-use Rattle.desk_base.specs.declared.search.results.Ask.{Ask}
 use Rattle.desk_load.specs.Views.{ViewParts, IsProbe, other_asks}
 use Rattle.desk_load.specs.Clashes.{IsFirstOver, after_probe}
 use Rattle.desk_load.proofs.Over.{over_more}

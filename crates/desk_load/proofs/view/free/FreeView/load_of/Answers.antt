@@ -1,9 +1,6 @@
-use Rattle.std.proofs.Common.{◌≡◌, ℕ, ◌<◌, ◌≤◌, min, true, false, ◌∙◌, refl, sym, ap, subst, arith}
-use Rattle.desk_base.specs.meaning.Time.{covers}
+use Rattle.std.proofs.Common.{ℕ, ◌∙◌, sym, ap, arith}
 use Rattle.desk_base.specs.meaning.Load.{load}
-use Rattle.desk_load.specs.declared.view.demand.Demand.{Demand}
 use Rattle.desk_load.specs.Views.{demand_at}
-use Rattle.desk_load.proofs.Staying.{stays_as}
 use Rattle.desk_load.proofs.Used.{load_covered, load_missed, not_true, not_false}
 use Rattle.desk_load.proofs.view.free.FreeView.load_of.Goals as goal
 

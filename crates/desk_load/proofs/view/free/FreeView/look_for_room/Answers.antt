@@ -1,4 +1,4 @@
-use Rattle.std.proofs.Common.{◌≡◌, ℕ, ◌<◌, ◌≤◌, refl, sym, ap, subst, arith}
+use Rattle.std.proofs.Common.{ℕ, ◌<◌, ◌≤◌, subst, arith}
 use Rattle.desk_load.specs.Views.{HasRoomAt, IsShortOn, demand_at}
 use Rattle.desk_load.proofs.Probing.{has_room, is_short}
 use Rattle.desk_load.proofs.view.free.FreeView.look_for_room.Goals as goal

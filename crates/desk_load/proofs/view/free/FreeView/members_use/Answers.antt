@@ -1,10 +1,10 @@
-use Rattle.std.proofs.Common.{◌≡◌, ℕ, ◌+◌, ◌<◌, ◌≤◌, ◌*◌, ◌^◌, min, take, ◌∙◌, refl, sym, ap, subst, arith}
+use Rattle.std.proofs.Common.{ℕ, ◌+◌, take, ◌∙◌, refl, sym, ap, arith}
 use Rattle.std.specs.Prelude.{sum_by}
 use Rattle.desk_base.specs.declared.rows.resources.MemberRow.{MemberRow}
 use Rattle.desk_base.specs.meaning.Load.{members, plain_load}
 use Rattle.desk_load.specs.Uses.{share_through}
 use Rattle.desk_load.specs.Views.{demand_at}
-use Rattle.desk_load.proofs.Staying.{stays_as, sum_more, sum_all, bound_more}
+use Rattle.desk_load.proofs.Staying.{stays_as, sum_more, sum_all}
 use Rattle.desk_load.proofs.Used.{use_of_members}
 use Rattle.desk_load.proofs.view.free.FreeView.members_use.Goals as goal
 

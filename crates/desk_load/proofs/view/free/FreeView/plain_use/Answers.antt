@@ -1,4 +1,4 @@
-use Rattle.std.proofs.Common.{◌≡◌, ℕ, ◌∙◌, refl, sym, ap, arith}
+use Rattle.std.proofs.Common.{ℕ, sym, arith}
 use Rattle.desk_base.specs.meaning.Load.{loads, plain_load}
 use Rattle.desk_load.specs.Views.{demand_at}
 use Rattle.desk_load.proofs.Staying.{stays_as, stays_where}

@@ -1,4 +1,4 @@
-use Rattle.std.proofs.Common.{◌≡◌, ℕ, ◌+◌, ◌<◌, ◌≤◌, ◌*◌, ◌^◌, min, take, ◌∙◌, refl, sym, ap, arith}
+use Rattle.std.proofs.Common.{ℕ, ◌+◌, take, ◌∙◌, refl, sym, ap, arith}
 use Rattle.std.specs.Prelude.{sum_by}
 use Rattle.desk_base.specs.declared.rows.resources.MemberRow.{MemberRow}
 use Rattle.desk_base.specs.meaning.Capacity.{capacity}

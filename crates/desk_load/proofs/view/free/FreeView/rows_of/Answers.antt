@@ -1,5 +1,4 @@
-use Rattle.std.proofs.Common.{◌≡◌, ◌≤◌, length, ap, subst, arith}
-use Rattle.desk_load.specs.Views.{ViewParts}
+use Rattle.std.proofs.Common.{length, ap, arith}
 use Rattle.desk_load.proofs.RoomLemmas.{few_rows}
 use Rattle.desk_load.proofs.view.free.FreeView.rows_of.Goals as goal
 

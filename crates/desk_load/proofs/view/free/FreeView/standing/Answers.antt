@@ -1,9 +1,7 @@
-use Rattle.std.proofs.Common.{◌≡◌, ℕ, ◌<◌, ◌≤◌, map, pos, refl, sym, ap, ◌∙◌, subst, arith}
+use Rattle.std.proofs.Common.{◌≡◌, ℕ, map, sym, ap, ◌∙◌, arith}
 use Rattle.std.proofs.lemmas.Int.{ints, clamps}
-use Rattle.desk_base.specs.declared.rows.tables.Tables.{Tables}
-use Rattle.desk_base.specs.rules.Limits.{first_minute, end_of_minutes}
+use Rattle.desk_base.specs.rules.Limits.{end_of_minutes}
 use Rattle.desk_base.specs.meaning.Load.{weight, ask_of}
-use Rattle.desk_load.specs.Index.{IsWeightOf}
 use Rattle.desk_load.specs.Views.{ViewParts}
 use Rattle.desk_load.proofs.Finding.{weight_found}
 use Rattle.desk_load.proofs.RoomLemmas.{no_weight, unknown_weighs}

@@ -1,4 +1,4 @@
-use Rattle.std.proofs.Common.{◌≡◌, ℕ, ◌+◌, ◌<◌, ◌≤◌, min, ◌∙◌, refl, sym, ap, arith}
+use Rattle.std.proofs.Common.{ℕ, refl, sym, arith}
 use Rattle.std.specs.Prelude.{sum_by}
 use Rattle.desk_base.specs.rules.Limits.{end_of_minutes}
 use Rattle.desk_base.specs.meaning.Load.{plain, crew, pool, unknown, members, own_load, plain_load, load}

@@ -1,7 +1,7 @@
-use Rattle.std.proofs.Common.{◌≡◌, ℕ, ◌+◌, ◌<◌, ◌≤◌, ◌*◌, ◌^◌, min, take, ◌∙◌, refl, sym, ap, arith}
+use Rattle.std.proofs.Common.{ℕ, ◌+◌, take, refl, sym, arith}
 use Rattle.std.specs.Prelude.{sum_by}
 use Rattle.desk_base.specs.declared.search.results.Ask.{Ask}
-use Rattle.desk_base.specs.meaning.Load.{load, weight}
+use Rattle.desk_base.specs.meaning.Load.{load}
 use Rattle.desk_load.proofs.Staying.{stays_as, sum_more, sum_all}
 use Rattle.desk_load.proofs.view.free.FreeView.weight_of.Goals as goal
 

@@ -1,6 +1,6 @@
-use Rattle.std.proofs.Common.{◌≡◌, ℕ, ◌+◌, ◌-◌, ◌≤◌, length, map, refl, sym, ap, ◌∙◌, arith}
-use Rattle.desk_base.specs.meaning.Load.{weight, ask_of}
-use Rattle.desk_load.specs.Views.{ViewParts, own_asks, other_asks}
+use Rattle.std.proofs.Common.{◌≡◌, ℕ, length, sym, ap, ◌∙◌, arith}
+use Rattle.desk_base.specs.meaning.Load.{weight}
+use Rattle.desk_load.specs.Views.{ViewParts, own_asks}
 use Rattle.desk_load.proofs.RoomLemmas.{few_own, weight_others}
 use Rattle.desk_load.proofs.view.free.FreeView.weight_of_others.Goals as goal
 

@@ -1,0 +1,3 @@
+-- What the tests say of the tables that they make.
+pub mod Placed
+pub mod Teams
