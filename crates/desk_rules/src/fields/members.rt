@@ -61,13 +61,13 @@ fn meets(tables: &Tables, other: &MemberRow, row: &MemberRow) -> bool
     ensures { result ≡ (not (is_same_membership other.now row.now) && are_of_one_kind tables.now other.now.group row.now.group && overlaps other.now.from other.now.to row.now.from row.now.to) }
 {
     !is_same(other, row)
-        && are_of_one_kind(tables, other.group, row.group)
         && overlap(
             other.from.get(),
             other.to.get(),
             row.from.get(),
             row.to.get(),
         )
+        && are_of_one_kind(tables, other.group, row.group)
 }
 
 /// The membership meets one of these in a group of the same kind.
