@@ -1,0 +1,57 @@
+//! The field rules of named rows, of resources, and of what resources have.
+ghost use Rattle.std.specs.Prelude.{◌≡◌, is_none, is_some};
+ghost use Rattle.desk_base.specs.meaning.Load.{sort_of_kind};
+ghost use Rattle.desk_base.specs.rows.Lookups.{KeysRise};
+ghost use Rattle.desk_base.specs.rules.Fields.{is_plain, keeps_kind, named_rules, rated_rules, resource_rules, same_bit, unrated_rules};
+ghost use Rattle.desk_base.specs.rules.Rules.{first_broken};
+
+use crate::fields::names::{is_name, is_within_range};
+use desk_base::limits::{ID_LIMIT, RATING_LIMIT};
+use desk_base::{HasRow, NamedRow, ResourceRow, Tables};
+
+/// Whether a unit, site, role, characteristic or territory has an id and a name.
+pub(crate) fn is_named(row: &NamedRow) -> bool
+    ensures { result ≡ is_none (first_broken (named_rules row.now)) }
+{
+    is_within_range(1, ID_LIMIT, row.id) && is_name(&row.name)
+}
+
+/// The resource that stands under the same id, if any, has the same kind.
+fn keeps_kind(tables: &Tables, resource: &ResourceRow) -> bool
+    requires { KeysRise tables.now }
+    ensures { result ≡ keeps_kind tables.now resource.now }
+{
+    match tables.resource(resource.id) {
+        Some(old) => old.kind.number() == resource.kind.number(),
+        None => true,
+    }
+}
+
+/// It has a calendar exactly where it is plain.
+fn has_due_calendar(resource: &ResourceRow) -> bool
+    ensures { result ≡ same_bit (is_some resource.now.calendar) (is_plain (sort_of_kind resource.now.kind)) }
+{
+    resource.calendar.is_some() == resource.kind.is_plain()
+}
+
+/// Whether a resource keeps its rules among these tables.
+pub(crate) fn is_resource(tables: &Tables, resource: &ResourceRow) -> bool
+    requires { KeysRise tables.now }
+    ensures { result ≡ is_none (first_broken (resource_rules tables.now resource.now)) }
+{
+    is_name(&resource.name) && keeps_kind(tables, resource) && has_due_calendar(resource)
+}
+
+/// Whether a role or a territory has no rating.
+pub(crate) fn is_unrated(row: &HasRow) -> bool
+    ensures { result ≡ is_none (first_broken (unrated_rules row.now)) }
+{
+    row.rating == 0
+}
+
+/// Whether a characteristic has a rating.
+pub(crate) fn is_rated(row: &HasRow) -> bool
+    ensures { result ≡ is_none (first_broken (rated_rules row.now)) }
+{
+    is_within_range(1, u32::from(RATING_LIMIT), u32::from(row.rating))
+}
