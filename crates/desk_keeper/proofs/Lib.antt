@@ -1,0 +1,2 @@
+-- Lemmas on stores that are taken out of a list.
+mod Taking

@@ -1,0 +1,6 @@
+pub mod Held
+pub mod Keepable
+pub mod Kept
+pub mod Loads
+pub mod Memory
+pub mod Stock
