@@ -12,12 +12,12 @@ ghost use Rattle.desk_base.specs.declared.asked.refusals.Refusal.TheVariants.{Un
 ghost use Rattle.desk_base.specs.declared.rows.tables.Table.TheVariants.{Group};
 ghost use Rattle.desk_core.specs.Answering.{refused_known, IsPageOrNone, IsAnswerOrNone};
 
+use crate::searching::searched;
 use desk_base::limits::PAGE_LIMIT;
 use desk_base::{
     Cursor, Field, GroupId, GroupRow, Key, Options, Outcome, Position, Query, Refusal, Reply,
     Table, Tables,
 };
-use desk_search::page;
 use std::alloc::Global;
 
 /// The position that a cursor shows.
@@ -139,7 +139,7 @@ fn page_of(
 {
     let position = position_of(after);
     let shown = shown_of(after);
-    match page(alloc, tables, group, options, position, shown, limit as u16) {
+    match searched(alloc, tables, group, options, position, shown, limit as u16) {
         Ok(page) => Outcome::Done(Reply::Rows(page)),
         Err(_) => Outcome::NoMemory,
     }

@@ -15,5 +15,6 @@ mod group_rules;
 mod new_bookings;
 mod row_places;
 mod row_rules;
+mod searching;
 
 pub use book::Book;
