@@ -5,3 +5,5 @@
 pub mod beside;
 #[cfg(test)]
 mod keeping;
+#[cfg(test)]
+mod opening;
