@@ -33,9 +33,7 @@ fn page_over<L: Ledger>(
     ensures { IfOk result (IsPage case.now.tables case.now.group options.now (record { after = option_copied after.entry; shown = shown }) limit) }
 {
     let mut steps = Steps::<L>::new(blank);
-    let page = page(
-        alloc, case, view, options, after, shown, limit, &mut steps,
-    )?;
+    let page = page(alloc, case, view, options, after, shown, limit, &mut steps)?;
     Ok(page)
 }
 

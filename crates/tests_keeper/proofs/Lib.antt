@@ -1,0 +1,2 @@
+-- Tables that are told keep their keys rising.
+pub mod Rises
