@@ -1,17 +1,14 @@
 -- What the chosen leaves of a group ask for.
-use Rattle.std.proofs.Common.{◌≡◌, ℕ, ◌+◌, ◌≤◌, Bool, true, not, ◌==◌, List, [], ◌∷◌, map, filter, length, Option, Some, None, refl, arith, nat_le}
+use Rattle.std.proofs.Common.{◌≡◌, ℕ, ◌+◌, ◌≤◌, true, List, [], ◌∷◌, map, length, Option, Some, None, refl, arith, nat_le}
 use Rattle.std.proofs.lemmas.Bool.Decides.{nat_tests}
-use Rattle.std.proofs.lemmas.List.{length-map}
-use Rattle.std.proofs.lemmas.List.Sums.{length-filter, count_by-le-length}
 use Rattle.std.specs.List.{list_all}
 use Rattle.desk_base.specs.declared.rows.tables.Tables.{Tables}
 use Rattle.desk_base.specs.declared.rows.groups.GroupRow.{GroupRow}
-use Rattle.desk_base.specs.declared.rows.bookings.BookingRow.{BookingRow}
 use Rattle.desk_base.specs.declared.rows.groups.Leaf.{Leaf}
 use Rattle.desk_base.specs.rules.Limits.{end_of_minutes}
 use Rattle.desk_base.specs.meaning.Time.{leaf_time}
 use Rattle.desk_base.specs.meaning.Picks.{Choice, choices_of}
-use Rattle.desk_base.specs.search.Listing.{serves, other_asks, ask_for}
+use Rattle.desk_base.specs.search.Listing.{serves, ask_for}
 use Rattle.desk_base.proofs.lists.Tests.{and_left, and_right, and_both}
 use Rattle.desk_feasible.proofs.Windows.{served, leaf_end}
 

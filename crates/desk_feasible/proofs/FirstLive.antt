@@ -1,18 +1,16 @@
 -- A first pick, alone.
-use Rattle.std.proofs.Common.{◌≡◌, ℕ, ◌+◌, ◌-◌, ◌≤◌, ◌<◌, true, false, List, [], ◌∷◌, ◌++◌, map, length, Option, Some, None, refl, sym, ap, ◌∙◌, subst, arith, is_none}
+use Rattle.std.proofs.Common.{◌≡◌, ℕ, ◌+◌, ◌-◌, ◌≤◌, ◌<◌, true, false, [], ◌∷◌, ◌++◌, map, Option, Some, None, refl, sym, ap, ◌∙◌, subst, arith}
 use Rattle.std.specs.Prelude.{slice_get, ◌↔◌}
 use Rattle.std.proofs.lemmas.List.{append-nil}
 use Rattle.std.specs.List.{list_all}
-use Rattle.desk_base.specs.declared.rows.tables.Tables.{Tables}
-use Rattle.desk_base.specs.declared.rows.groups.GroupRow.{GroupRow}
 use Rattle.desk_base.specs.declared.rows.groups.Leaf.{Leaf}
 use Rattle.desk_base.specs.declared.search.results.Ask.{Ask}
 use Rattle.desk_base.specs.declared.search.results.Options.{Options}
-use Rattle.desk_base.specs.meaning.Eligible.{first_broken_rule, first_broken_at, is_in_windows}
+use Rattle.desk_base.specs.meaning.Eligible.{first_broken_rule, is_in_windows}
 use Rattle.desk_base.specs.meaning.Load.{Fits}
 use Rattle.desk_base.specs.meaning.Picks.{Choice, choices_of, first_broken_same}
 use Rattle.desk_base.specs.meaning.Trees.{tree_of}
-use Rattle.desk_base.specs.search.Listing.{BeginsPattern, IsOnGrid, IsWithinOptions, IsLive, serves, other_asks, ask_for, asks_for}
+use Rattle.desk_base.specs.search.Listing.{BeginsPattern, IsOnGrid, IsWithinOptions, IsLive, serves, other_asks, ask_for}
 use Rattle.desk_base.specs.search.Positions.{position_at}
 use Rattle.desk_base.proofs.lists.Tests.{and_left, and_both}
 use Rattle.desk_need.specs.Cases.{Asked}

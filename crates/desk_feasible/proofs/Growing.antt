@@ -1,9 +1,9 @@
 -- Picks with one more.
-use Rattle.std.proofs.Common.{◌≡◌, ℕ, zero, suc, ◌⊎◌, inl, inr, ◌+◌, ◌-◌, ◌≤◌, ◌<◌, Bool, true, false, not, List, [], ◌∷◌, ◌++◌, map, take, drop, length, Option, Some, None, cond, refl, sym, ap, ◌∙◌, subst, arith, is_some, is_none, append_assoc, length-append}
+use Rattle.std.proofs.Common.{◌≡◌, ℕ, zero, suc, ◌⊎◌, inl, inr, ◌+◌, ◌≤◌, true, false, not, List, [], ◌∷◌, ◌++◌, map, take, drop, length, Option, Some, None, cond, refl, sym, ap, ◌∙◌, subst, arith, is_some, is_none, append_assoc, length-append}
 use Rattle.std.proofs.lemmas.Bool.{false≢true}
 use Rattle.std.proofs.lemmas.List.{map-append, length-map}
 use Rattle.std.proofs.lemmas.List.Folds.{list_all-append}
-use Rattle.std.specs.Prelude.{slice_get, Contains}
+use Rattle.std.specs.Prelude.{slice_get}
 use Rattle.std.specs.List.{list_all}
 use Rattle.std.specs.Option.{option_or}
 use Rattle.desk_base.specs.declared.asked.rules.LeafRule.{LeafRule}
@@ -12,11 +12,10 @@ use Rattle.desk_base.specs.declared.rows.tables.Tables.{Tables}
 use Rattle.desk_base.specs.declared.rows.groups.GroupRow.{GroupRow}
 use Rattle.desk_base.specs.declared.rows.groups.Leaf.{Leaf}
 use Rattle.desk_base.specs.declared.rows.groups.Node.{Node}
-use Rattle.desk_base.specs.declared.search.results.Ask.{Ask}
 use Rattle.desk_base.specs.meaning.Eligible.{first_broken_rule, first_broken_at, is_in_windows}
 use Rattle.desk_base.specs.meaning.Load.{Fits}
 use Rattle.desk_base.specs.meaning.Picks.{Choice, choices_of, pattern_of, keeps, Span, spans, keeps_same, first_broken_same}
-use Rattle.desk_base.specs.meaning.Trees.{tree_of, patterns, leaf_count}
+use Rattle.desk_base.specs.meaning.Trees.{tree_of, patterns}
 use Rattle.desk_base.specs.search.Listing.{BeginsPattern, serves, other_asks, ask_for, asks_for}
 use Rattle.desk_base.proofs.lists.Members.{in_from_contains}
 use Rattle.desk_base.proofs.lists.Places.{position_none}

@@ -1,9 +1,8 @@
 -- Picks that are laid on a view.
-use Rattle.std.proofs.Common.{◌≡◌, ℕ, ◌+◌, ◌-◌, ◌≤◌, ◌<◌, inl, inr, List, [], ◌∷◌, ◌++◌, map, take, length, Option, Some, None, refl, sym, ap, ◌∙◌, subst, arith, append_assoc, length-append}
+use Rattle.std.proofs.Common.{◌≡◌, ℕ, ◌+◌, ◌-◌, ◌≤◌, ◌<◌, inl, inr, List, [], ◌∷◌, ◌++◌, map, take, length, Option, Some, None, refl, sym, ap, ◌∙◌, subst, arith, length-append}
 use Rattle.std.proofs.lemmas.Option.{slice_get_cases}
 use Rattle.desk_base.specs.declared.search.results.Ask.{Ask}
 use Rattle.desk_base.specs.meaning.Load.{Fits}
-use Rattle.desk_base.specs.meaning.Picks.{choices_of}
 use Rattle.desk_base.specs.search.Listing.{other_asks, ask_for, asks_for}
 use Rattle.desk_need.specs.Cases.{Asked}
 use Rattle.desk_load.specs.Views.{ViewParts, standing}

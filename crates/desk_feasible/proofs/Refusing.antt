@@ -1,23 +1,14 @@
 -- Each point that a start and picks break is the verdict on them where they keep those before it.
-use Rattle.std.proofs.Common.{◌≡◌, ℕ, ◌+◌, ◌*◌, ◌≤◌, true, not, ◌==◌, List, [], ◌∷◌, ◌++◌, map, length, Option, Some, None, refl, sym, ap, subst, arith, is_none, unwrap_or}
+use Rattle.std.proofs.Common.{◌≡◌, ℕ, true, List, [], ◌∷◌, ◌++◌, Option, Some, None, refl, sym, ap, subst, is_none, unwrap_or}
 use Rattle.std.proofs.lemmas.Bool.{false≢true}
-use Rattle.std.proofs.lemmas.List.{length-map}
 use Rattle.std.specs.Prelude.{option_map}
 use Rattle.std.specs.List.{list_all}
 use Rattle.std.specs.Option.{option_or}
 use Rattle.desk_base.specs.declared.rows.tables.Tables.{Tables}
 use Rattle.desk_base.specs.declared.rows.groups.GroupRow.{GroupRow}
-use Rattle.desk_base.specs.declared.rows.bookings.BookingRow.{BookingRow}
-use Rattle.desk_base.specs.declared.search.results.Ask.{Ask}
 use Rattle.desk_base.specs.declared.asked.refusals.Clash.{Clash}
-use Rattle.desk_base.specs.declared.asked.refusals.Refusal.{Refusal}
 use Rattle.desk_base.specs.declared.asked.refusals.Refusal.TheVariants.{Conflict}
 use Rattle.desk_base.specs.declared.asked.rules.LeafRule.{LeafRule}
-use Rattle.desk_base.specs.declared.rows.tables.Table.TheVariants.{Member as MemberTable, Booking as BookingTable}
-use Rattle.desk_base.specs.declared.rows.tables.AnyRow.TheVariants.{Member, Booking}
-use Rattle.desk_base.specs.rules.TableLimits.{limit_of}
-use Rattle.desk_base.specs.meaning.Efforts.{AreLightBookings}
-use Rattle.desk_base.specs.rules.Sound.{AreWellFormed}
 use Rattle.desk_base.specs.meaning.Eligible.{first_broken_at}
 use Rattle.desk_base.specs.meaning.Load.{Fits}
 use Rattle.desk_base.specs.meaning.Picks.{Choice, choices_of, first_broken_same}
@@ -25,9 +16,7 @@ use Rattle.desk_base.specs.search.Listing.{IsFeasible, serves, other_asks, asks_
 use Rattle.desk_base.specs.search.Verdicts.{Unserved, first_unserved, HasShape, IsServed}
 use Rattle.desk_base.specs.asked.Steps.{others_of, IsConflict, IsPlaceRefusal}
 use Rattle.desk_base.proofs.meaning.Clashes.{clash-not_fits}
-use Rattle.desk_base.proofs.lists.Members.{in-filter}
-use Rattle.desk_base.proofs.meaning.Efforts.{some_light}
-use Rattle.desk_base.proofs.lists.Tests.{and_both}
+use Rattle.desk_base.proofs.lists.Tests.{and_left, and_right, and_both}
 use Rattle.desk_base.specs.search.Verdicts.{IsVerdict}
 use Rattle.desk_feasible.specs.declared.broken.Broken.{Broken}
 use Rattle.desk_feasible.specs.declared.broken.Broken.TheVariants.{OffGrid, BadShape, NotEligible}
@@ -46,7 +35,17 @@ none_unserved t g s (c ∷ cs) e =
     let h = unserved_step (first_broken_at t g c.leaf s c.resource) c (first_unserved t g s cs) e in
     and_both (serves t g s c) (list_all (serves t g s) cs) h.0 (none_unserved t g s cs h.1)
 
-none_mapped : (o : Option Unserved) → None ≡ option_map unserved_as o → o ≡ None
+-- and only so
+served_step : (o : Option LeafRule) (c : Choice) (later : Option Unserved) → is_none o ≡ true → later ≡ None → option_or (option_map (λ (broken : LeafRule). record { choice = c; rule = broken }) o) later ≡ None
+served_step None c later e f = f
+served_step (Some broken) c later e f = absurd (false≢true e)
+
+pub all_served : (t : Tables) (g : GroupRow) (s : ℕ) (cs : List Choice) → list_all (serves t g s) cs ≡ true → first_unserved t g s cs ≡ None
+all_served t g s [] e = refl
+all_served t g s (c ∷ cs) e =
+    served_step (first_broken_at t g c.leaf s c.resource) c (first_unserved t g s cs) (and_left (serves t g s c) (list_all (serves t g s) cs) e) (all_served t g s cs (and_right (serves t g s c) (list_all (serves t g s) cs) e))
+
+pub none_mapped : (o : Option Unserved) → None ≡ option_map unserved_as o → o ≡ None
 none_mapped None e = refl
 none_mapped (Some u) e = absurd (false≢true (sym (ap is_none e)))
 
@@ -70,7 +69,7 @@ module _ (t : Tables) (g : GroupRow) (s : ℕ) (picks : List (Option ℕ)) where
   pub refused : (b : Broken) → IsVerdict t g s picks (verdict_of b) → IsPlaceRefusal t g s picks (refusal_of s b)
   refused OffGrid h = (h, refl)
   refused (BadShape j) h = h
-  refused (NotEligible j r rule) h = h
+  refused (NotEligible j r broken) h = h
 
   -- ---- room
 

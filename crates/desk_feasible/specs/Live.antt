@@ -3,11 +3,12 @@ use Rattle.std.specs.Prelude.{ℕ, ◌≡◌, ◌≤◌, ◌-◌, List, [], ◌�
 use Rattle.std.specs.List.{list_all}
 use Rattle.desk_base.specs.declared.rows.tables.Tables.{Tables}
 use Rattle.desk_base.specs.declared.rows.groups.GroupRow.{GroupRow}
+use Rattle.desk_base.specs.declared.search.results.Options.{Options}
 use Rattle.desk_base.specs.meaning.Load.{Fits}
 use Rattle.desk_base.specs.meaning.Picks.{choices_of, pattern_of, first_broken_same}
 use Rattle.desk_base.specs.meaning.Trees.{tree_of}
 use Rattle.desk_base.specs.rules.Sound.{AreWellFormed}
-use Rattle.desk_base.specs.search.Listing.{IsOnGrid, BeginsPattern, serves, other_asks, asks_for}
+use Rattle.desk_base.specs.search.Listing.{IsOnGrid, IsWithinOptions, BeginsPattern, serves, other_asks, asks_for}
 use Rattle.desk_need.specs.Cases.{Asked}
 use Rattle.desk_load.specs.Views.{ViewParts}
 
@@ -23,6 +24,15 @@ pub record IsPlaced (t : Tables) (g : GroupRow) (s : ℕ) (picks : List (Option 
   pub serve : IsTrue (list_all (serves t g s) (choices_of 0 g.leaves picks))
   pub same : first_broken_same t s g.nodes g.leaves picks ≡ None
   pub fits : Fits t (other_asks t g ++ asks_for g s picks)
+
+-- the points of a live position that hang on no booking
+pub record IsInPlace (t : Tables) (g : GroupRow) (o : Options) (s : ℕ) (picks : List (Option ℕ)) : Type 0 where
+  pub grid : IsOnGrid g s
+  pub within : IsWithinOptions o s
+  pub has_pick : 1 ≤ length picks
+  pub pattern : BeginsPattern (tree_of g.nodes) (pattern_of picks)
+  pub serve : IsTrue (list_all (serves t g s) (choices_of 0 g.leaves picks))
+  pub same : first_broken_same t s g.nodes g.leaves picks ≡ None
 
 -- the view is over the tables, without the group's own bookings, and the picks are laid on top: no more of them than there are leaves
 pub record HasLaid (a : Asked) (v : ViewParts) (s : ℕ) (picks : List (Option ℕ)) : Type 0 where

@@ -1,9 +1,7 @@
 -- The live positions of a ready case are what a search may go over.
-use Rattle.std.proofs.Common.{◌≡◌, ℕ, ◌+◌, ◌<◌, ◌≤◌, true, List, [], ◌∷◌, ◌++◌, map, length, Option, Some, None, refl, sym, ap, ◌∙◌, subst, arith, is_some, length-append}
+use Rattle.std.proofs.Common.{ℕ, ◌≤◌, List, [], ◌∷◌, ◌++◌, length, Option, Some, None, arith, length-append}
 use Rattle.std.specs.Prelude.{Contains, MatchOption, ⊤, max}
 use Rattle.std.specs.Option.{option_map_or}
-use Rattle.desk_base.specs.declared.rows.tables.Tables.{Tables}
-use Rattle.desk_base.specs.declared.rows.groups.GroupRow.{GroupRow}
 use Rattle.desk_base.specs.declared.search.results.Position.{Position}
 use Rattle.desk_base.specs.declared.search.results.Options.{Options}
 use Rattle.desk_base.specs.search.Listing.{IsLive, IsLiveList, IsWithinOptions}

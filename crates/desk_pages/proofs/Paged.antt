@@ -1,16 +1,15 @@
 -- A page over the live positions of a case.
-use Rattle.std.proofs.Common.{◌≡◌, ℕ, ◌+◌, ◌*◌, ◌≤◌, List, [], length, Option, Some, None, refl, sym, ap, ◌∙◌, subst, arith}
+use Rattle.std.proofs.Common.{◌≡◌, ℕ, List, [], length, Option, Some, sym, ap, ◌∙◌, arith}
 use Rattle.desk_base.specs.declared.rows.tables.Tables.{Tables}
 use Rattle.desk_base.specs.declared.rows.groups.GroupRow.{GroupRow}
 use Rattle.desk_base.specs.declared.search.results.Ask.{Ask}
 use Rattle.desk_base.specs.declared.search.results.Options.{Options}
 use Rattle.desk_base.specs.declared.search.results.Page.{Page}
 use Rattle.desk_base.specs.declared.search.results.Position.{Position}
-use Rattle.desk_base.specs.rules.Limits.{passed_limit}
 use Rattle.desk_base.specs.search.Listing.{IsLive, IsLiveList}
 use Rattle.desk_base.specs.search.Order.{position_cmp}
 use Rattle.desk_base.specs.search.OrderLaws.{position_total}
-use Rattle.desk_base.specs.search.Page.{ResumePoint, IsAfter, ArePending, due_of, passed_of, page_of, IsPage}
+use Rattle.desk_base.specs.search.Page.{ResumePoint, IsAfter, ArePending, page_of, IsPage}
 use Rattle.desk_base.specs.search.Positions.{positions_after}
 use Rattle.desk_base.proofs.lists.Orders.{Enumerates-same}
 use Rattle.desk_base.proofs.searched.Pages.{pending_are}

@@ -1,5 +1,5 @@
 -- What a search goes over is sound.
-use Rattle.std.proofs.Common.{◌≡◌, ℕ, ◌+◌, ◌*◌, ◌<◌, ◌≤◌, ◌⊎◌, inl, inr, true, List, [], ◌∷◌, ◌++◌, map, filter, length, get_or, Option, Some, None, refl, sym, ap, ◌∙◌, subst, arith, length-append}
+use Rattle.std.proofs.Common.{◌≡◌, ℕ, ◌<◌, ◌≤◌, ◌⊎◌, inl, inr, List, [], ◌∷◌, ◌++◌, map, filter, length, get_or, Option, Some, None, refl, sym, ap, subst, arith, length-append}
 use Rattle.std.proofs.lemmas.Bool.{cases_lt, false≢true}
 use Rattle.std.proofs.lemmas.List.{length-map, get_or_past}
 use Rattle.std.proofs.lemmas.List.Sums.{length-filter, count_by-le-length}
@@ -12,20 +12,17 @@ use Rattle.std.proofs.lemmas.Cmp.{nat_cmp_total}
 use Rattle.desk_base.specs.declared.rows.tables.Tables.{Tables}
 use Rattle.desk_base.specs.declared.rows.resources.ResourceRow.{ResourceRow}
 use Rattle.desk_base.specs.declared.rows.groups.Leaf.{Leaf}
-use Rattle.desk_base.specs.declared.search.results.Options.{Options}
-use Rattle.desk_base.specs.declared.search.results.Position.{Position}
 use Rattle.desk_base.specs.meaning.Eligible.{first_broken_rule, eligibility}
-use Rattle.desk_base.specs.meaning.Picks.{choices_of}
 use Rattle.desk_base.specs.rows.Lookups.{KeysRise}
 use Rattle.desk_base.specs.rules.Rules.{first_broken}
-use Rattle.desk_base.specs.search.Listing.{IsLive, serves}
+use Rattle.desk_base.specs.search.Listing.{IsLive}
 use Rattle.desk_base.specs.search.Order.{pick_cmp}
 use Rattle.desk_base.specs.search.Positions.{position_at}
 use Rattle.desk_base.proofs.lists.Members.{IsIn, in-append, in-map, in_mapped, in_left, in_right, contains_from_in, in_from_contains, sorted-append, sorted-map}
 use Rattle.desk_base.proofs.lists.Orders.{Enumerates-same}
 use Rattle.desk_base.proofs.searched.Prefixes.{prefix_live}
 use Rattle.desk_base.proofs.tables.Sounds.{keys_in_order}
-use Rattle.desk_need.specs.Candidates.{AreCandidates, serving}
+use Rattle.desk_need.specs.Candidates.{serving}
 use Rattle.desk_need.specs.Cases.{Asked}
 use Rattle.desk_need.proofs.CandidateLemmas.{serving_are_candidates}
 use Rattle.desk_load.specs.Starts.{IsNextOf}

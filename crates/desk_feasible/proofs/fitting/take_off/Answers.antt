@@ -1,6 +1,5 @@
-use Rattle.std.proofs.Common.{◌≡◌, ℕ, ◌+◌, ◌-◌, ◌≤◌, length, take, refl, sym, ap, ◌∙◌, arith}
+use Rattle.std.proofs.Common.{◌-◌, length, take, refl, sym, ap, ◌∙◌, arith}
 use Rattle.std.proofs.lemmas.List.{take_all}
-use Rattle.desk_base.specs.declared.search.results.Ask.{Ask}
 use Rattle.desk_feasible.proofs.Laid.{one_less}
 use Rattle.desk_feasible.proofs.fitting.take_off.Goals as goal
 

@@ -1,4 +1,4 @@
-use Rattle.std.proofs.Common.{◌≤◌, length, ap, ◌∙◌, map, arith}
+use Rattle.std.proofs.Common.{length, ap, ◌∙◌, map, arith}
 use Rattle.desk_base.specs.meaning.Picks.{choices_of}
 use Rattle.desk_base.specs.search.Listing.{ask_for}
 use Rattle.desk_feasible.proofs.Asked.{length_asks}

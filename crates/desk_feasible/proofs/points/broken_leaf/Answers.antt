@@ -1,4 +1,4 @@
-use Rattle.std.proofs.Common.{◌≡◌, ℕ, arith, length, List, Option, Some, None, sym, ap, ◌∙◌, subst}
+use Rattle.std.proofs.Common.{◌≡◌, ℕ, arith, length, List, Option, Some, None, ap, ◌∙◌}
 use Rattle.std.specs.Prelude.{MatchOption, option_map}
 use Rattle.desk_base.specs.meaning.Picks.{choices_of}
 use Rattle.desk_base.specs.search.Verdicts.{first_unserved, IsServed, IsVerdict, HasShape}

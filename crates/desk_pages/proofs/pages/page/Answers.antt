@@ -1,9 +1,8 @@
-use Rattle.std.proofs.Common.{◌≡◌, ℕ, ◌+◌, ◌*◌, ◌≤◌, List, [], length, sym, ap, subst}
+use Rattle.std.proofs.Common.{ℕ, ◌+◌, ◌*◌, ◌≤◌, List, [], length, sym, ap, subst}
 use Rattle.std.specs.Option.{option_copied}
 use Rattle.desk_base.specs.declared.search.results.Position.{Position}
 use Rattle.desk_base.specs.rules.Limits.{passed_limit}
 use Rattle.desk_base.specs.search.Page.{ResumePoint, due_of, passed_of}
-use Rattle.desk_base.specs.search.Positions.{positions_after}
 use Rattle.desk_need.specs.Cases.{Asked}
 use Rattle.desk_feasible.specs.Live.{HasLaid}
 use Rattle.desk_pages.specs.Spaces.{SpaceParts, ways_of}

@@ -1,4 +1,4 @@
-use Rattle.std.proofs.Common.{◌≡◌, ◌≤◌, ap, arith}
+use Rattle.std.proofs.Common.{◌≤◌, ap, arith}
 use Rattle.desk_base.specs.declared.rows.groups.GroupRow.{GroupRow}
 use Rattle.desk_base.specs.rules.Limits.{first_minute, end_of_minutes}
 use Rattle.desk_pages.specs.Spaces.{SpaceParts}

@@ -1,10 +1,8 @@
-use Rattle.std.proofs.Common.{◌≡◌, ℕ, ◌∷◌, [], ◌++◌, List, Option, length, get_or, sym, subst}
+use Rattle.std.proofs.Common.{◌∷◌, [], ◌++◌, length, get_or, sym, subst}
 use Rattle.std.specs.Prelude.{Contains}
 use Rattle.desk_pruned.specs.Ways.{IsLiveAt}
 use Rattle.desk_pages.specs.Spaces.{SpaceParts, ways_of}
 use Rattle.desk_pages.proofs.Sounding.{placed_live, more_live, offered_serves}
-use Rattle.desk_pages.proofs.Lives.{placed_from, live_from}
-use Rattle.desk_base.specs.search.Positions.{position_at}
 use Rattle.desk_pages.proofs.space.SpaceExploredFreeView.can_push.Goals as goal
 
 pub extends-requires-clause-placed : goal.extends-requires-clause-placed

@@ -1,4 +1,4 @@
-use Rattle.std.proofs.Common.{◌≡◌, ℕ, ◌∷◌, [], ◌++◌, List, Option, length, get_or, sym, subst}
+use Rattle.std.proofs.Common.{[], get_or, sym, subst}
 use Rattle.std.specs.Prelude.{Contains}
 use Rattle.desk_feasible.specs.Live.{HasLaid}
 use Rattle.desk_pruned.specs.Ways.{IsFirstStart}

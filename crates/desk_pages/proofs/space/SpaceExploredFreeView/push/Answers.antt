@@ -1,4 +1,4 @@
-use Rattle.std.proofs.Common.{◌≡◌, ◌∷◌, [], ◌++◌, sym, subst}
+use Rattle.std.proofs.Common.{◌∷◌, [], ◌++◌, sym, subst}
 use Rattle.desk_pruned.specs.Ways.{IsLiveAt}
 use Rattle.desk_pages.specs.Spaces.{SpaceParts, ways_of}
 use Rattle.desk_pages.proofs.Sounding.{placed_live}
