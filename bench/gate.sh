@@ -49,6 +49,9 @@ look() {
   done
 } 2> /dev/null
 
+# Where the script is interrupted, the gate is too, and what it cost until then is printed.
+trap 'kill "$gate" 2> /dev/null' INT TERM
+
 while kill -0 "$gate" 2> /dev/null; do
   look
   sleep 2
