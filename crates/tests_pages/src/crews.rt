@@ -42,7 +42,10 @@ const A_CREW: Visit = Visit {
 fn a_membership_that_ends(rt: HostRuntime) -> Result<(), Fail> {
     let last: Row = (NINE, &[10]);
     let rows: [Row; 3] = [(EIGHT, &[10]), (HALF_PAST_EIGHT, &[10]), last];
-    let pages: [(Asked, Given); 1] = [((None, None, None, 0, 500), (&rows, Some(last), None, true))];
+    let pages: [(Asked, Given); 1] = [(
+        (None, None, None, 0, 500),
+        (&rows, Some(last), None, true),
+    )];
     let rows = [
         Wanted::Crew(10),
         Wanted::Member(10, 1, EIGHT, TEN),
@@ -64,7 +67,10 @@ const OF_ONE_CREW: Visit = Visit {
 fn a_membership_that_begins(rt: HostRuntime) -> Result<(), Fail> {
     let last: Row = (ELEVEN, &[1]);
     let rows: [Row; 3] = [(NINE, &[1]), (TEN, &[1]), last];
-    let pages: [(Asked, Given); 1] = [((None, None, None, 0, 500), (&rows, Some(last), None, true))];
+    let pages: [(Asked, Given); 1] = [(
+        (None, None, None, 0, 500),
+        (&rows, Some(last), None, true),
+    )];
     let rows = [
         Wanted::Crew(10),
         Wanted::Member(10, 1, NINE, NOON),

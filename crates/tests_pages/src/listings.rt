@@ -16,12 +16,7 @@ const LISTING: [Row; 10] = [
     (ELEVEN, &[3]),
 ];
 
-const AT_EIGHT_AND_NINE: [Row; 4] = [
-    (EIGHT, &[1]),
-    (EIGHT, &[2]),
-    (NINE, &[1]),
-    (NINE, &[2]),
-];
+const AT_EIGHT_AND_NINE: [Row; 4] = [(EIGHT, &[1]), (EIGHT, &[2]), (NINE, &[1]), (NINE, &[2])];
 
 const FROM_TEN: [Row; 4] = [(TEN, &[1]), (TEN, &[2]), (TEN, &[3]), (ELEVEN, &[1])];
 
@@ -132,12 +127,7 @@ fn after_invented_positions(rt: HostRuntime) -> Result<(), Fail> {
 
 #[test]
 fn the_first_row_of_each_start(rt: HostRuntime) -> Result<(), Fail> {
-    let firsts: [Row; 4] = [
-        (EIGHT, &[1]),
-        (NINE, &[1]),
-        (TEN, &[1]),
-        (ELEVEN, &[1]),
-    ];
+    let firsts: [Row; 4] = [(EIGHT, &[1]), (NINE, &[1]), (TEN, &[1]), (ELEVEN, &[1])];
     let pages: [(Asked, Given); 1] = [(
         (None, Some(1), None, 0, 500),
         (&firsts, Some((ELEVEN, &[1])), Some(1), true),

@@ -216,7 +216,10 @@ fn add(alloc: Global, tables: &mut Tables, wanted: Wanted) -> Result<(), Fail> {
         }
         Wanted::Group(visit) => add_group(alloc, &mut tables.groups, &visit),
         Wanted::Booking(id, group, resource, from) => {
-            add_booking(&mut tables.bookings, booking_row(id, group, resource, from)?)
+            add_booking(
+                &mut tables.bookings,
+                booking_row(id, group, resource, from)?,
+            )
         }
     }
 }

@@ -1,4 +1,4 @@
-use Rattle.std.proofs.Common.{◌≡◌, sym, subst}
+use Rattle.std.proofs.Common.{sym, subst}
 use Rattle.desk_base.specs.declared.rows.tables.Tables.{Tables}
 use Rattle.desk_base.specs.declared.rows.groups.GroupRow.{GroupRow}
 use Rattle.desk_base.proofs.meaning.Fewer.{Fits-others}
