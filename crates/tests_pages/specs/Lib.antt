@@ -1,0 +1,2 @@
+-- What the tests say of the pages that they ask for.
+pub mod Counts
