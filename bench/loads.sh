@@ -9,9 +9,9 @@ program=crates/desk_bench/out/desk_bench
 . "$(dirname "$0")/rounds.sh"
 for resources in 200 2000 4000; do
   idle=$(milliseconds "$program" idle "$resources" 0)
-  each index "$resources" 5
-  each book "$resources" 20000
-  each view "$resources" 1000000
-  each probe "$resources" 1000000
-  each fit "$resources" 100000
+  each index "$resources" 10
+  each book "$resources" 200000
+  each view "$resources" 20000000
+  each probe "$resources" 4000000
+  each fit "$resources" 500000
 done

@@ -8,8 +8,8 @@ program=crates/desk_bench/out/desk_bench
 . "$(dirname "$0")/rounds.sh"
 for resources in 200 2000 4000; do
   idle=$(milliseconds "$program" idle "$resources" 0)
-  each page "$resources" 200
-  each resumed "$resources" 200
-  each twelve "$resources" 50
-  each all "$resources" 2
+  each page "$resources" 2000
+  each resumed "$resources" 5000
+  each twelve "$resources" 1000
+  each all "$resources" 10
 done
