@@ -9,7 +9,7 @@ program=crates/desk_bench/out/desk_bench
 . "$(dirname "$0")/rounds.sh"
 for resources in 200 2000 4000; do
   idle=$(milliseconds "$program" idle "$resources" 0)
-  each index "$resources" 10
+  each index "$resources" $((20000 / resources))
   each book "$resources" 200000
   each view "$resources" 20000000
   each probe "$resources" 4000000

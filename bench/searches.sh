@@ -11,5 +11,5 @@ for resources in 200 2000 4000; do
   each page "$resources" 2000
   each resumed "$resources" 5000
   each twelve "$resources" 1000
-  each all "$resources" 10
+  each all "$resources" $((20000 / resources))
 done

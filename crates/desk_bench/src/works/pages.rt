@@ -1,7 +1,6 @@
 //! A page of a search. Nobody counts its steps.
 ghost use Rattle.std.specs.Prelude.{◌≡◌, ◌<◌, ◌≤◌, Some, []};
 ghost use Rattle.desk_base.specs.rules.Limits.{page_limit};
-ghost use Rattle.desk_base.specs.search.Page.{IsAskable};
 ghost use Rattle.desk_feasible.specs.Live.{IsReady};
 ghost use Rattle.desk_load.specs.Index.{IsIndexOf};
 

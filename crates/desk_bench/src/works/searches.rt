@@ -1,5 +1,5 @@
 //! Searches, page by page.
-ghost use Rattle.std.specs.Prelude.{◌≡◌, ◌≤◌, map};
+ghost use Rattle.std.specs.Prelude.{◌≤◌, map};
 ghost use Rattle.desk_base.specs.meaning.Load.{Fits, ask_of};
 ghost use Rattle.desk_base.specs.rules.Limits.{page_limit};
 ghost use Rattle.desk_base.specs.rules.Sound.{AreWellFormed};
