@@ -1,0 +1,3 @@
+-- What is known of tables that are searched.
+mod Everyone
+mod GroupsThere
