@@ -3,5 +3,6 @@ pub mod Callers
 pub mod Groups
 pub mod Acts
 pub mod Refusing
+pub mod Summaries
 pub mod Steps
 pub mod Histories

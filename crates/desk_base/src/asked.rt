@@ -4,3 +4,4 @@ pub mod answers;
 mod copies;
 pub mod refusals;
 pub mod rules;
+pub mod summaries;

@@ -71,3 +71,6 @@ pub const PASSED_LIMIT: u32 = 4096;
 
 /// Entries of the journal of one opening.
 pub const JOURNAL_LIMIT: usize = 100_000;
+
+/// Entries of the journal that one answer shows.
+pub const SUMMARY_LIMIT: usize = 500;

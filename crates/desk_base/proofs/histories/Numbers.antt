@@ -59,3 +59,21 @@ numbers_rise opened before between after e f m n legal first second =
     let c = last_up opened before in
     let d = last_up (after_act (after_journal opened before) e.call e.act) between in
     (omega (arith, a.0, c), omega (arith, a.1, b.0, d))
+
+-- ---- revisions
+
+after_revision : (t : Tables) (call : Call) (a : Act) → (after_act t call a).revision ≡ t.revision + 1
+unfolding after_act with_change
+after_revision t call a = refl
+
+-- a journal's entries raise the revision one by one
+pub journal_revision : (t : Tables) (es : List Entry) → (after_journal t es).revision ≡ t.revision + length es
+journal_revision t [] = omega arith
+journal_revision t (e ∷ es) = let a = after_revision t e.call e.act in let b = journal_revision (after_act t e.call e.act) es in omega (arith, a, b)
+
+-- the revision of a legal journal's entry counts the entries before it
+pub entry_revision : (opened : Tables) (before after : List Entry) (e : Entry) → IsLegal opened (before ++ e ∷ after) → e.revision ≡ opened.revision + length before + 1
+entry_revision opened before after e legal =
+    let p = legal_at opened [] before after e legal in
+    let r = ap (λ (x : Entry). x.revision) p.0.entry in
+    let n = journal_revision opened before in omega (arith, r, n)

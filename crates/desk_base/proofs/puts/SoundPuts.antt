@@ -37,10 +37,10 @@ rest_put t row e = (refl, refl, refl)
 -- ---- the rules, one by one
 
 module _ (t : Tables) (row : AnyRow) (s : IsSound t) (fit : Suits t row) where
-  few_rows : (table : Table) → length (rows_in t table) ≤ limit_of table
+  pub few_rows : (table : Table) → length (rows_in t table) ≤ limit_of table
   few_rows table = subst (λ n. n ≤ limit_of table) (length-map (rows_in t table) key_of) (few_keys t table s)
 
-  own_limit : length (with_one key_of row (rows_in t (key_of row).table)) ≤ limit_of (key_of row).table
+  pub own_limit : length (with_one key_of row (rows_in t (key_of row).table)) ≤ limit_of (key_of row).table
   own_limit = elim (or_cases (is_there t (key_of row)) (nat_lt (length (rows_in t (key_of row).table)) (limit_of (key_of row).table)) fit.place) [
     | inl e ↦
         let h = in-map key_of (key_of row) (rows_in t (key_of row).table) (key_there t (key_of row) e) in
@@ -51,31 +51,31 @@ module _ (t : Tables) (row : AnyRow) (s : IsSound t) (fit : Suits t row) where
         let f = ltb-true (length (rows_in t (key_of row).table)) (limit_of (key_of row).table) e in omega arith
   ]
 
-  rows_limit : (table : Table) → length (rows_in (with_row t row) table) ≤ limit_of table
+  pub rows_limit : (table : Table) → length (rows_in (with_row t row) table) ≤ limit_of table
   rows_limit table = elim (rows_cases t row table) [
     | inl e ↦ subst (λ l. length l ≤ limit_of table) (sym e.1) (subst (λ d. length (with_one key_of row (rows_in t d)) ≤ limit_of d) e.0 own_limit)
     | inr e ↦ subst (λ l. length l ≤ limit_of table) (sym e) (few_rows table)
   ]
 
-  put_limit : (table : Table) → length (keys_in (with_row t row) table) ≤ limit_of table
+  pub put_limit : (table : Table) → length (keys_in (with_row t row) table) ≤ limit_of table
   put_limit table = subst (λ n. n ≤ limit_of table) (sym (length-map (rows_in (with_row t row) table) key_of)) (rows_limit table)
 
-  put_field : (table : Table) → list_all (keeps_fields (with_row t row)) (rows_in (with_row t row) table) ≡ true
+  pub put_field : (table : Table) → list_all (keeps_fields (with_row t row)) (rows_in (with_row t row) table) ≡ true
   put_field table = list_all_from (keeps_fields (with_row t row)) (rows_in (with_row t row) table) (λ x i. fields_put t row s fit x (own_table (with_row t row) table x i))
 
-  put_citation : (table : Table) → list_all (cites_there (with_row t row)) (rows_in (with_row t row) table) ≡ true
+  pub put_citation : (table : Table) → list_all (cites_there (with_row t row)) (rows_in (with_row t row) table) ≡ true
   put_citation table = list_all_from (cites_there (with_row t row)) (rows_in (with_row t row) table) (λ x i.
       list_all_from (λ (c : Key). list_any (λ (k : Key). (k.a == c.a) && ((k.b == c.b) && (k.c == c.c))) (keys_in (with_row t row) c.table)) (citations_of x) (λ c j.
       list_any_from (λ (k : Key). (k.a == c.a) && ((k.b == c.b) && (k.c == c.c))) (keys_in (with_row t row) c.table) c (put_cites t row s fit table x c i j) (λ i. eq-eqb c.a c.a refl i && (eq-eqb c.b c.b refl i && eq-eqb c.c c.c refl i))))
 
-  put_count : is_counted (with_row t row) ≡ true
+  pub put_count : is_counted (with_row t row) ≡ true
   put_count =
       let e = rest_put t row fit.unbooked in
       (λ i. nat_le (e.1 i) revision_limit && nat_le (e.2 i) serial_limit && list_all (λ (b : BookingRow). nat_le b.id (e.2 i)) (e.0 i)) ∙ s.keeps Count (id_key BookingTable 0) refl
 
 -- ---- what groups have of bookings
 
-none_filtered : {A : Type 0} (p : A → Bool) (xs : List A) → list_any p xs ≡ false → filter p xs ≡ []
+pub none_filtered : {A : Type 0} (p : A → Bool) (xs : List A) → list_any p xs ≡ false → filter p xs ≡ []
 none_filtered p [] e = refl
 none_filtered p (x ∷ xs) e = ap (λ b. cond b (x ∷ filter p xs) (filter p xs)) (none_at p (x ∷ xs) x e (inl refl)) ∙ none_filtered p xs (rest (p x) e)
   where
@@ -98,7 +98,7 @@ pub booked_alike : (t u : Tables) (g : GroupRow) → u.bookings ≡ t.bookings �
 booked_alike t u g e h = booked_as_before t u g (ap (filter (λ (b : BookingRow). b.group == g.id)) e) h
 
 module _ (t : Tables) (row : AnyRow) (s : IsSound t) (fit : Suits t row) where
-  put_booked : (g : GroupRow) → Contains (with_row t row).groups g → (bookings_of (with_row t row) g ≡ []) ⊎ IsBooked (with_row t row) g
+  pub put_booked : (g : GroupRow) → Contains (with_row t row).groups g → (bookings_of (with_row t row) g ≡ []) ⊎ IsBooked (with_row t row) g
   put_booked g c =
       let rest = rest_put t row fit.unbooked in
       let old = in_put t row GroupTable (Group g) (in_mapped Group g (with_row t row).groups (in_from_contains (with_row t row).groups g c)) in

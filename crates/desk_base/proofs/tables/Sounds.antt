@@ -58,7 +58,7 @@ pub key_total : IsTotalOrder key_cmp
 key_total = then_total (on_total (λ (k : Key). table_number k.table) nat_cmp_total) (then_total (on_total (λ (k : Key). k.a) nat_cmp_total) (then_total (on_total (λ (k : Key). k.b) nat_cmp_total) (on_total (λ (k : Key). k.c) nat_cmp_total)))
 
 -- where each key is above the one before it, the keys rise
-rising_from : (keys : List Key) → ((before after : List Key) (j k : Key) → keys ≡ before ++ j ∷ k ∷ after → key_cmp j k ≡ Less) → IsStrictlySortedBy key_cmp keys
+pub rising_from : (keys : List Key) → ((before after : List Key) (j k : Key) → keys ≡ before ++ j ∷ k ∷ after → key_cmp j k ≡ Less) → IsStrictlySortedBy key_cmp keys
 unfolding IsStrictlySortedBy
 rising_from [] h = tt
 rising_from (x ∷ []) h = (tt, tt)
@@ -69,7 +69,7 @@ rising_from (x ∷ y ∷ ys) h =
       r,
     )
 
-adjacent : (before after : List Key) (j k : Key) → IsStrictlySortedBy key_cmp (before ++ j ∷ k ∷ after) → key_cmp j k ≡ Less
+pub adjacent : (before after : List Key) (j k : Key) → IsStrictlySortedBy key_cmp (before ++ j ∷ k ∷ after) → key_cmp j k ≡ Less
 unfolding IsStrictlySortedBy
 adjacent [] after j k s = s.0.0
 adjacent (x ∷ before) after j k s = adjacent before after j k s.1
@@ -106,7 +106,7 @@ resources_in_order t keeps = ids_rise t.resources (keys_in_order t ResourceTable
 pub resources_rise : (t : Tables) → IsSound t → IsStrictlySortedBy nat_cmp (map (λ (x : ResourceRow). x.id) t.resources)
 resources_rise t s = resources_in_order t (s.keeps Order)
 
-split_at : {A : Type 0} (n : ℕ) (xs : List A) → n < length xs → (before : List A) × (k : A) × (after : List A) × (xs ≡ before ++ k ∷ after) × (length before ≡ n)
+pub split_at : {A : Type 0} (n : ℕ) (xs : List A) → n < length xs → (before : List A) × (k : A) × (after : List A) × (xs ≡ before ++ k ∷ after) × (length before ≡ n)
 split_at n [] h = absurd (omega arith)
 split_at zero (x ∷ xs) h = ([], x, xs, refl, refl)
 split_at (suc n) (x ∷ xs) h = let r = split_at n xs (omega arith) in (x ∷ r.0, r.1, r.2, ap (λ l. x ∷ l) r.3, ap suc r.4)
@@ -135,10 +135,10 @@ group_kept t g s c = group_keeps t g (s.keeps Field) c
 
 -- ---- sound tables are well formed
 
-ten_times : (m n : ℕ) → m ≤ n → m ≤ 10 * n
+pub ten_times : (m n : ℕ) → m ≤ n → m ≤ 10 * n
 ten_times m n h = omega (arith, h)
 
-enough_taken : (table : Table) (n : ℕ) → n ≤ limit_of table → n ≤ taken_limit_of table
+pub enough_taken : (table : Table) (n : ℕ) → n ≤ limit_of table → n ≤ taken_limit_of table
 enough_taken ZoneTable n h = h
 enough_taken CalendarTable n h = h
 enough_taken WorkTable n h = h
@@ -170,7 +170,7 @@ well_formed t s = record {
 
 -- ---- what makes tables sound
 
-abbrev has_numbers : Key → Key → Bool
+abbrev pub has_numbers : Key → Key → Bool
 has_numbers c k = (k.a == c.a) && ((k.b == c.b) && (k.c == c.c))
 
 abbrev is_there : Tables → Key → Bool
@@ -179,15 +179,15 @@ is_there t c = list_any (has_numbers c) (keys_in t c.table)
 abbrev pub cites_there : Tables → AnyRow → Bool
 cites_there t row = list_all (is_there t) (citations_of row)
 
-same_number : (m n : ℕ) → (m == n) ≡ true → m ≡ n
+pub same_number : (m n : ℕ) → (m == n) ≡ true → m ≡ n
 same_number m n h = grind (arith, nat_tests)
 
-same_key : (x y : Key) → x.table ≡ y.table → x.a ≡ y.a → x.b ≡ y.b → x.c ≡ y.c → x ≡ y
+pub same_key : (x y : Key) → x.table ≡ y.table → x.a ≡ y.a → x.b ≡ y.b → x.c ≡ y.c → x ≡ y
 same_key x y d e f h =
     ap (λ u. record { table = u; a = x.a; b = x.b; c = x.c }) d ∙ ap (λ u. record { table = y.table; a = u; b = x.b; c = x.c }) e
     ∙ ap (λ u. record { table = y.table; a = y.a; b = u; c = x.c }) f ∙ ap (λ u. record { table = y.table; a = y.a; b = y.b; c = u }) h
 
-there_is : (t : Tables) (c : Key) → is_there t c ≡ true → Contains (keys_in t c.table) c
+pub there_is : (t : Tables) (c : Key) → is_there t c ≡ true → Contains (keys_in t c.table) c
 there_is t c e =
     let h = list_any_at (has_numbers c) (keys_in t c.table) e in
     let r = and_right (h.0.a == c.a) ((h.0.b == c.b) && (h.0.c == c.c)) h.2 in
@@ -204,7 +204,7 @@ pub record IsSoundByTable (t : Tables) : Type 0 where
   pub booked : (g : GroupRow) → Contains t.groups g → (bookings_of t g ≡ []) ⊎ IsBooked t g
   pub count : is_counted t ≡ true
 
-under_limit : (before after : List Key) (k : Key) (n : ℕ) → length (before ++ k ∷ after) ≤ n → length before ≢ n
+pub under_limit : (before after : List Key) (k : Key) (n : ℕ) → length (before ++ k ∷ after) ≤ n → length before ≢ n
 under_limit before after k n h e = let l = length-append before (k ∷ after) in omega arith
 
 keeps_each : (t : Tables) → IsSoundByTable t → (rule : TableRule) (k : Key) → Keeps rule t k

@@ -34,6 +34,7 @@ use Rattle.desk_base.specs.search.Page.{ResumePoint, beginning, IsPage}
 use Rattle.desk_base.specs.asked.Groups.{group_of}
 use Rattle.desk_base.specs.asked.Acts.{receipt_of, after_act}
 use Rattle.desk_base.specs.asked.Refusing.{unknown_among, early_refusal}
+use Rattle.desk_base.specs.asked.Summaries.{summaries_from}
 
 -- ---- where bookings do not fit
 
@@ -163,19 +164,20 @@ refused_page t group options after latest limit =
     option_or (unknown_among t (id_key Group group ∷ [])) (option_or (refused_limit limit) (option_or (refused_per options.per) (refused_cursor t.revision after latest)))
 
 -- the answer to a question
-abbrev pub IsAnswer : Tables → Query → Outcome → Type 0
-IsAnswer t (query.Rows group options after latest limit) (outcome.Done (reply.Rows page)) =
+abbrev pub IsAnswer : Tables → List Entry → Query → Outcome → Type 0
+IsAnswer t journal (query.Rows group options after latest limit) (outcome.Done (reply.Rows page)) =
     (refused_page t group options after latest limit ≡ None) × ((g : GroupRow) × (group_of t group ≡ Some g) × IsPage t g options (point_of after) limit page)
-IsAnswer t (query.Rows group options after latest limit) (outcome.Refused why) = refused_page t group options after latest limit ≡ Some why
-IsAnswer t query.Revision out = out ≡ outcome.Done reply.Revision
-IsAnswer t (query.Rows group options after latest limit) _ = ⊥
+IsAnswer t journal (query.Rows group options after latest limit) (outcome.Refused why) = refused_page t group options after latest limit ≡ Some why
+IsAnswer t journal (query.Journal from) out = out ≡ outcome.Done (reply.Journal (summaries_from journal from))
+IsAnswer t journal query.Revision out = out ≡ outcome.Done reply.Revision
+IsAnswer t journal (query.Rows group options after latest limit) _ = ⊥
 
 -- ---- the step
 
 -- what a command comes to: the outcome, and the tables and the journal after it
 abbrev pub IsStep : Tables → List Entry → ℕ → Command → Outcome → Tables → List Entry → Type 0
 IsStep t journal pass (command.Change call a) out t' journal' = IsChanged t journal pass call a (kept_receipt t call) out t' journal'
-IsStep t journal pass (command.Ask q) out t' journal' = IsAnswer t q out × IsUnchanged t journal t' journal'
+IsStep t journal pass (command.Ask q) out t' journal' = IsAnswer t journal q out × IsUnchanged t journal t' journal'
 
 -- the step, or want of memory, after which everything is as before
 abbrev pub IsTurn : Tables → List Entry → ℕ → Command → Outcome → Tables → List Entry → Type 0

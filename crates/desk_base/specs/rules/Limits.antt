@@ -97,3 +97,7 @@ passed_limit = PASSED_LIMIT
 -- entries of the journal of one opening
 abbrev pub journal_limit : ℕ
 journal_limit = JOURNAL_LIMIT
+
+-- entries of the journal that one answer shows
+abbrev pub summary_limit : ℕ
+summary_limit = SUMMARY_LIMIT

@@ -1,6 +1,7 @@
 //! What a caller asks of a schedule, and what it is answered.
 use crate::asked::acts::{Act, Call};
 use crate::asked::refusals::Refusal;
+use crate::asked::summaries::Summaries;
 use crate::rows::bookings::Receipt;
 use crate::search::results::{Cursor, Options, Page};
 use crate::values::ids::GroupId;
@@ -17,6 +18,8 @@ pub enum Query {
         latest: bool,
         limit: u32,
     },
+    /// The first entries of the journal whose revision is above this one.
+    Journal { from: u64 },
     /// The revision alone.
     Revision,
 }
@@ -37,6 +40,8 @@ pub enum Reply {
     Change(Receipt),
     /// A page of a group's rows.
     Rows(Page),
+    /// Entries of the journal.
+    Journal(Summaries),
     /// The revision, which every answer carries.
     Revision,
 }

@@ -103,6 +103,7 @@ impl Duplicate for Query {
                 latest: *latest,
                 limit: *limit,
             },
+            Query::Journal { from } => Query::Journal { from: *from },
             Query::Revision => Query::Revision,
         })
     }
