@@ -4,11 +4,10 @@ use Rattle.std.proofs.lemmas.Bool.{false≢true}
 use Rattle.std.proofs.lemmas.Bool.Decides.{nat_tests}
 use Rattle.std.specs.Prelude.{Contains}
 use Rattle.desk_base.specs.rows.Types.{Tables, GroupRow, Node, NodeKind}
-use Rattle.desk_base.specs.declared.asked.rules.TreeRule.{TreeRule}
 use Rattle.desk_base.specs.rules.Rules.{first_broken}
 use Rattle.desk_base.specs.rules.Fields.{group_rules}
 use Rattle.desk_base.specs.meaning.Trees.{Tree, Trees, none, tree_and, PlacedTree, children, siblings_after, tree_by, trees_of, tree_of, is_leaf, leaf_bit}
-use Rattle.desk_base.specs.rules.TreeRules.{TreeFault, node_rules, node_fault, tree_fault, fault_or, has_child}
+use Rattle.desk_base.specs.rules.TreeRules.{node_rules, node_fault, tree_fault, has_child}
 use Rattle.desk_base.specs.rules.Sound.{AreWellFormed}
 use Rattle.desk_base.proofs.lists.Tests.{and_right}
 use Rattle.desk_base.proofs.tables.Sounds.{group_keeps}
