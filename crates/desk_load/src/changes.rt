@@ -105,6 +105,13 @@ impl PreparedIndex {
         }
     }
 
+    /// The index of the changed tables.
+    pub fn after(&self) -> &LoadIndex
+        ensures { result.now ≡ self.now.after }
+    {
+        &self.after
+    }
+
     /// The index of the changed tables. It takes no memory.
     pub fn apply(self) -> LoadIndex
         ensures { result ≡ self.after }

@@ -1,5 +1,5 @@
 //! The index of what stands.
-ghost use Rattle.std.specs.Prelude.{◌≡◌, find, filter, map};
+ghost use Rattle.std.specs.Prelude.{◌≡◌, [], find, filter, map};
 ghost use Rattle.std.specs.Option.{option_copied};
 ghost use Rattle.std.specs.Ordering.{nat_cmp};
 ghost use Rattle.std.specs.List.Sorted.{IsStrictlySortedBy};
@@ -14,6 +14,7 @@ use crate::lists::BookingList;
 use crate::weights::Weight;
 use desk_base::{BookingRow, GroupId, MemberRow, ResourceId, row_of};
 use desk_member::ByMember;
+use std::alloc::Global;
 use std::marker::Model;
 
 /// What the standing bookings of some tables weigh, and which they are: for each resource and for each group.
@@ -39,6 +40,18 @@ impl Model for LoadIndex {
 }
 
 impl LoadIndex {
+    /// The index of no tables: it has nothing. It takes no memory.
+    pub fn empty(alloc: Global) -> LoadIndex
+        ensures { result ≡ record { weights = []; standing = []; booked = []; members = [] } }
+    {
+        LoadIndex {
+            weights: Vec::new(alloc),
+            standing: Vec::new(alloc),
+            booked: Vec::new(alloc),
+            members: ByMember::empty(alloc),
+        }
+    }
+
     /// The weight of a resource, found by halving.
     #[tactic(auto, using(crate::proofs::Numbers::rise_strict))]
     pub fn weight_of(&self, resource: ResourceId) -> Option<&Weight>

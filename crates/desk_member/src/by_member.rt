@@ -1,5 +1,5 @@
 //! Memberships by member.
-ghost use Rattle.std.specs.Prelude.{◌≡◌, IfOk};
+ghost use Rattle.std.specs.Prelude.{◌≡◌, [], IfOk};
 ghost use Rattle.desk_member.specs.Memberships.{AreMemberships, of_member};
 
 use desk_base::{MemberRow, NoMemory, ResourceId, Tables};
@@ -25,6 +25,15 @@ impl Model for ByMember {
 }
 
 impl ByMember {
+    /// No memberships. It takes no memory.
+    pub fn empty(alloc: Global) -> ByMember
+        ensures { result ≡ [] }
+    {
+        ByMember {
+            rows: Vec::new(alloc),
+        }
+    }
+
     /// The memberships of the tables. In time n log n, for n memberships.
     pub fn of(alloc: Global, tables: &Tables) -> Result<ByMember, NoMemory>
         ensures { IfOk result (λ b. AreMemberships tables.now b) }
