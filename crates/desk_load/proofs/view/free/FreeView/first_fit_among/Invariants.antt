@@ -1,4 +1,4 @@
-use Rattle.std.proofs.Common.{ℕ, ◌≡◌, ◌+◌, ◌-◌, ◌<◌, ◌≤◌}
+use Rattle.std.proofs.Common.{ℕ, ◌+◌, ◌-◌, ◌<◌, ◌≤◌}
 use Rattle.desk_base.specs.rules.Limits.{end_of_minutes}
 use Rattle.desk_load.specs.Views.{IsFree, demand_over}
 use Rattle.desk_load.proofs.view.free.FreeView.first_fit_among.Given as goal
