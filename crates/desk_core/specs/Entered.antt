@@ -1,8 +1,8 @@
 -- What comes of a change: it is entered, or a refusal applies.
-use Rattle.std.specs.Prelude.{◌≡◌, ◌≤◌, Bool, true, false, List, [], map, length, Result, Ok, Err, ⊤}
+use Rattle.std.specs.Prelude.{◌≡◌, Bool, true, false, List, [], map, Option, Some, None, if◌then◌else◌, Result, Ok, Err, ⊤}
 use Rattle.desk_base.specs.declared.rows.bookings.Receipt.{Receipt}
 use Rattle.desk_base.specs.declared.rows.tables.Tables.{Tables}
-use Rattle.desk_base.specs.declared.rows.tables.Table.TheVariants.{Booking, Member}
+use Rattle.desk_load.specs.Effects.{KeepIndexed}
 use Rattle.desk_base.specs.declared.asked.acts.Act.{Act}
 use Rattle.desk_base.specs.declared.asked.acts.Act.TheVariants as act
 use Rattle.desk_base.specs.declared.asked.acts.Call.{Call}
@@ -13,36 +13,58 @@ use Rattle.desk_base.specs.declared.asked.answers.Outcome.{Outcome}
 use Rattle.desk_base.specs.declared.asked.answers.Outcome.TheVariants as outcome
 use Rattle.desk_base.specs.declared.asked.answers.Reply.TheVariants as reply
 use Rattle.desk_base.specs.rows.Rows.{key_of}
-use Rattle.desk_base.specs.rules.TableLimits.{limit_of}
+use Rattle.desk_base.specs.rules.Sound.{AreWellFormed}
 use Rattle.desk_base.specs.meaning.Load.{Fits, ask_of}
-use Rattle.desk_base.specs.meaning.Efforts.{AreLightBookings}
-use Rattle.desk_base.specs.changes.Changes.{with_change}
+use Rattle.desk_base.specs.changes.Changes.{with_change, without_key}
 use Rattle.desk_base.specs.asked.Acts.{after_act}
 use Rattle.desk_base.specs.asked.Steps.{bears_on_room, IsConflict, IsLateRefusal, IsRefused}
 use Rattle.desk_core.specs.declared.entering.NotEntered.{NotEntered}
 use Rattle.desk_core.specs.declared.entering.NotEntered.TheVariants.{Refused, NoMemory}
 
--- the act puts a row that says when resources have room
+-- the act puts or takes out a row that says when resources have room
 abbrev pub act_bears_on_room : Act → Bool
 act_bears_on_room (act.Put row) = bears_on_room (key_of row).table
+act_bears_on_room (act.Remove key) = bears_on_room key.table
 act_bears_on_room _ = false
 
 -- where the act bears on room, the standing bookings fit after it
 abbrev pub FitAfter : Tables → Call → Act → Type 0
 FitAfter t call a = act_bears_on_room a ≡ true → Fits (after_act t call a) (map ask_of t.bookings)
 
--- a change that can be tried out: it takes out no row, and clashes can be looked for after it
-pub record CanBeTried (t : Tables) (c : Change) : Type 0 where
-  pub no_removes : c.removes ≡ []
-  pub few : length (with_change t c).bookings ≤ limit_of Booking
-  pub few_members : length (with_change t c).members ≤ limit_of Member
-  pub light : AreLightBookings (with_change t c).bookings
+-- the tables on which an act with this change is judged, where it bears on room: those with the change, or those without the row
+abbrev pub judged : Tables → Act → Change → Option Tables
+judged t (act.Put row) c = if bears_on_room (key_of row).table then Some (with_change t c) else None
+judged t (act.Remove key) c = if bears_on_room key.table then Some (without_key t key) else None
+judged t _ c = None
 
--- in these tables the standing bookings clash, which was looked for, or memory was wanting
-abbrev pub IsClashing : Bool → Tables → NotEntered → Type 0
-IsClashing tried t (Refused (Conflict c)) = (tried ≡ true) × IsConflict t t.bookings [] c
-IsClashing tried t (Refused _) = ⊥
-IsClashing tried t NoMemory = ⊤
+-- the change is one that such an act comes to, and can be judged
+abbrev pub IsOf : Tables → Act → Change → Type 0
+IsOf t (act.Put row) c = c.removes ≡ []
+IsOf t (act.Remove key) c = AreWellFormed (without_key t key) × KeepIndexed (with_change t c) (without_key t key)
+IsOf t _ c = ⊤
+
+-- the tables before the change and with it are well formed
+pub record CanBeEntered (t : Tables) (a : Act) (c : Change) : Type 0 where
+  pub formed : AreWellFormed t
+  pub changed : AreWellFormed (with_change t c)
+  pub of : IsOf t a c
+
+-- the standing bookings fit the tables on which they are judged
+abbrev pub FitIn : Option Tables → Type 0
+FitIn None = ⊤
+FitIn (Some t) = Fits t (map ask_of t.bookings)
+
+-- in these tables the standing bookings clash, or memory was wanting
+abbrev pub IsClashing : Tables → NotEntered → Type 0
+IsClashing t (Refused (Conflict c)) = IsConflict t t.bookings [] c
+IsClashing t (Refused _) = ⊥
+IsClashing t NoMemory = ⊤
+
+-- they clash in the tables on which they are judged, or memory was wanting
+abbrev pub IsClashingIn : Option Tables → NotEntered → Type 0
+IsClashingIn (Some t) why = IsClashing t why
+IsClashingIn None (Refused why) = ⊥
+IsClashingIn None NoMemory = ⊤
 
 -- one of the later refusals applies, or memory was wanting
 abbrev pub IsLateHindrance : Tables → Call → Act → NotEntered → Type 0

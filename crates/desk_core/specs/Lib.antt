@@ -4,3 +4,4 @@ pub mod Built
 pub mod Answering
 pub mod Effects
 pub mod Entered
+pub mod Journaled

@@ -5,10 +5,11 @@ ghost use Rattle.desk_base.specs.rules.Limits.{serial_limit};
 ghost use Rattle.desk_base.specs.rules.Sound.{IsSound};
 ghost use Rattle.desk_base.specs.asked.Steps.{entry_of};
 ghost use Rattle.desk_base.specs.declared.rows.tables.AnyRow.TheVariants.{Caller};
-ghost use Rattle.desk_core.specs.Built.{IsServed};
+ghost use Rattle.desk_load.specs.Index.{IsIndexOf};
 ghost use Rattle.desk_core.specs.Effects.{IsPlaced};
 
 use crate::effects::{Effect, effect_of};
+use crate::view::View;
 use desk_base::{
     Act, AnyRow, Call, CallerRow, Change, Duplicate, Entry, NoMemory, Receipt, Tables,
 };
@@ -67,22 +68,22 @@ fn entry_of(
     })
 }
 
-/// What a served change comes to that nothing refuses.
+/// What a change comes to that nothing refuses.
 pub(crate) fn accept(
     alloc: Global,
-    tables: &Tables,
+    view: &View,
     pass: u64,
     call: &Call,
     act: &Act,
 ) -> Result<Accepted, NoMemory>
-    requires sound { IsSound tables.now }
-    requires served { IsServed act.now }
-    requires placed { IsPlaced tables.now act.now }
-    requires numbers { tables.now.last_booking + length (made_by tables.now act.now) ≤ serial_limit }
-    ensures { IfOk result (λ a. a ≡ record { change = change_of tables.now call.now act.now; entry = entry_of tables.now pass call.now act.now }) }
+    requires sound { IsSound view.now.tables }
+    requires index { IsIndexOf view.now.tables view.now.index }
+    requires placed { IsPlaced view.now.tables act.now }
+    requires numbers { view.now.tables.last_booking + length (made_by view.now.tables act.now) ≤ serial_limit }
+    ensures { IfOk result (λ a. a ≡ record { change = change_of view.now.tables call.now act.now; entry = entry_of view.now.tables pass call.now act.now }) }
 {
-    let effect = effect_of(alloc, tables, act)?;
-    let entry = entry_of(alloc, tables, pass, call, act, effect.receipt)?;
-    let change = change_of(tables, call, effect)?;
+    let effect = effect_of(alloc, &view.tables, &view.index, act)?;
+    let entry = entry_of(alloc, &view.tables, pass, call, act, effect.receipt)?;
+    let change = change_of(&view.tables, call, effect)?;
     Ok(Accepted { change, entry })
 }

@@ -1,5 +1,5 @@
 //! Answers to questions.
-ghost use Rattle.std.specs.Prelude.{◌≡◌, None, Contains, option_copied};
+ghost use Rattle.std.specs.Prelude.{◌≡◌, List, None, Contains, option_copied};
 ghost use Rattle.std.specs.Option.{option_or};
 ghost use Rattle.desk_base.specs.rows.Keys.{id_key};
 ghost use Rattle.desk_base.specs.rules.Sound.{IsSound};
@@ -7,16 +7,21 @@ ghost use Rattle.desk_base.specs.rules.Fields.{is_within_range};
 ghost use Rattle.desk_base.specs.rules.Limits.{page_limit};
 ghost use Rattle.desk_base.specs.search.Page.{IsAskable};
 ghost use Rattle.desk_base.specs.asked.Steps.{point_of, refused_limit, refused_per, refused_cursor};
+ghost use Rattle.desk_base.specs.declared.asked.acts.Entry.{Entry};
 ghost use Rattle.desk_base.specs.declared.asked.answers.Query.TheVariants.{Rows as RowsOf};
 ghost use Rattle.desk_base.specs.declared.asked.refusals.Refusal.TheVariants.{UnknownId};
 ghost use Rattle.desk_base.specs.declared.rows.tables.Table.TheVariants.{Group};
-ghost use Rattle.desk_core.specs.Answering.{refused_known, IsPageOrNone, IsAnswerOrNone};
+ghost use Rattle.desk_core.specs.Answering.{refused_known, IsAnswerOrNone, IsPageOrNone, IsSummariesOrNone};
+ghost use Rattle.desk_core.specs.Journaled.{AreNumbered};
+ghost use Rattle.desk_load.specs.Index.{IsIndexOf};
 
+use crate::journaled::summaries;
 use crate::searching::searched;
+use crate::view::View;
 use desk_base::limits::PAGE_LIMIT;
 use desk_base::{
-    Cursor, Field, GroupId, GroupRow, Key, Options, Outcome, Position, Query, Refusal, Reply,
-    Table, Tables,
+    Cursor, Entry, Field, GroupId, GroupRow, Key, NoMemory, Options, Outcome, Position, Query,
+    Refusal, Reply, Table, Tables,
 };
 use std::alloc::Global;
 
@@ -126,20 +131,21 @@ fn unknown_group(id: GroupId) -> Refusal
 /// A page of a group that is there.
 fn page_of(
     alloc: Global,
-    tables: &Tables,
+    view: &View,
     group: &GroupRow,
     options: &Options,
     after: &Option<Cursor>,
     limit: u32,
 ) -> Outcome
-    requires sound { IsSound tables.now }
-    requires there { Contains tables.now.groups group.now }
+    requires sound { IsSound view.now.tables }
+    requires index { IsIndexOf view.now.tables view.now.index }
+    requires there { Contains view.now.tables.groups group.now }
     requires askable { IsAskable options.now limit }
-    ensures { IsPageOrNone tables.now group.now options.now (point_of after.now) limit result }
+    ensures { IsPageOrNone view.now.tables group.now options.now (point_of after.now) limit result }
 {
     let position = position_of(after);
     let shown = shown_of(after);
-    match searched(alloc, tables, group, options, position, shown, limit as u16) {
+    match searched(alloc, view, group, options, position, shown, limit as u16) {
         Ok(page) => Outcome::Done(Reply::Rows(page)),
         Err(_) => Outcome::NoMemory,
     }
@@ -148,29 +154,43 @@ fn page_of(
 /// A page of a group's rows, or why it is refused.
 fn rows(
     alloc: Global,
-    tables: &Tables,
+    view: &View,
     group: GroupId,
     options: &Options,
     after: &Option<Cursor>,
     latest: bool,
     limit: u32,
 ) -> Outcome
-    requires { IsSound tables.now }
-    ensures { IsAnswerOrNone tables.now (RowsOf group options.now after.now latest limit) result }
+    requires sound { IsSound view.now.tables }
+    requires index { IsIndexOf view.now.tables view.now.index }
+    ensures { (journal : List Entry) → IsAnswerOrNone view.now.tables journal (RowsOf group options.now after.now latest limit) result }
 {
-    match tables.group(group) {
-        Some(row) => match refused_known(tables, options, after, latest, limit) {
+    match view.tables.group(group) {
+        Some(row) => match refused_known(&view.tables, options, after, latest, limit) {
             Some(why) => Outcome::Refused(why),
-            None => page_of(alloc, tables, row, options, after, limit),
+            None => page_of(alloc, view, row, options, after, limit),
         },
         None => Outcome::Refused(unknown_group(group)),
     }
 }
 
-/// The answer of a sound schedule to a question.
-pub(crate) fn answer(alloc: Global, tables: &Tables, query: &Query) -> Outcome
-    requires { IsSound tables.now }
-    ensures { IsAnswerOrNone tables.now query.now result }
+/// The entries of the journal above a revision.
+fn journal_above(alloc: Global, revision: u64, journal: &[Entry], from: u64) -> Outcome
+    requires { AreNumbered revision journal.now }
+    ensures { IsSummariesOrNone journal.now from result }
+{
+    match summaries(alloc, revision, journal, from) {
+        Ok(summaries) => Outcome::Done(Reply::Journal(summaries)),
+        Err(NoMemory) => Outcome::NoMemory,
+    }
+}
+
+/// The answer of a sound schedule to a question. The entries of its journal end with its revision.
+pub(crate) fn answer(alloc: Global, view: &View, journal: &[Entry], query: &Query) -> Outcome
+    requires sound { IsSound view.now.tables }
+    requires index { IsIndexOf view.now.tables view.now.index }
+    requires numbered { AreNumbered view.now.tables.revision journal.now }
+    ensures { IsAnswerOrNone view.now.tables journal.now query.now result }
 {
     match query {
         Query::Rows {
@@ -179,7 +199,8 @@ pub(crate) fn answer(alloc: Global, tables: &Tables, query: &Query) -> Outcome
             after,
             latest,
             limit,
-        } => rows(alloc, tables, *group, options, after, *latest, *limit),
+        } => rows(alloc, view, *group, options, after, *latest, *limit),
+        Query::Journal { from } => journal_above(alloc, view.tables.revision, journal, *from),
         Query::Revision => Outcome::Done(Reply::Revision),
     }
 }

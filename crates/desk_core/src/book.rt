@@ -1,17 +1,22 @@
-//! A schedule with the journal of its changes. A book is always sound, its journal is legal over the tables that it was opened
-//! with, and its tables are those after its journal: no call can lose that.
-ghost use Rattle.std.specs.Prelude.{◌≡◌, []};
+//! A schedule with the journal of its changes. A book is always sound, its index is that of its tables, its journal is
+//! legal over the tables that it was opened with, and its tables are those after its journal: no call can lose that.
+ghost use Rattle.std.specs.Prelude.{◌≡◌, [], IfOk, IfErr};
 ghost use Rattle.desk_base.specs.asked.Histories.{IsLegal, after_journal};
 ghost use Rattle.desk_base.specs.rules.Sound.{IsSound};
 ghost use Rattle.desk_base.specs.asked.Steps.{IsTurn};
 ghost use Rattle.desk_base.specs.declared.asked.answers.Command.TheVariants.{Change};
-ghost use Rattle.desk_core.specs.Built.{IsServed, IsBuilt};
+ghost use Rattle.desk_change.specs.Served.{IsServed};
+ghost use Rattle.desk_load.specs.Index.{IsIndexOf};
+ghost use Rattle.desk_core.specs.Answering.{IsAnswerOrNone};
+ghost use Rattle.desk_core.specs.Built.{IsBuilt};
 
 use crate::answering::answer;
-use crate::callers::kept_receipt;
 use crate::changing::carry_out;
 use crate::entering::outcome_of;
-use desk_base::{Act, Answer, Call, Command, Entry, Outcome, Tables};
+use crate::view::View;
+use desk_base::{Act, Answer, Call, Command, Duplicate, Entry, NoMemory, Outcome, Query, Tables};
+use desk_change::kept_receipt;
+use desk_load::LoadIndex;
 use std::alloc::Global;
 use std::marker::Model;
 use std::snapshot::Snapshot;
@@ -19,7 +24,7 @@ use std::snapshot::Snapshot;
 /// A schedule, and what was changed in it since it was opened.
 #[derive(Drop)]
 pub struct Book {
-    tables: Tables,
+    view: View,
     journal: Vec<Entry>,
     opened: Snapshot<Tables>,
 }
@@ -29,22 +34,26 @@ impl Model for Book {
 
     ghost Value = { BookState };
 
-    ghost view = { λ b. record { opened = b.opened.value; tables = b.tables; journal = b.journal.items } };
+    ghost view = { λ b. record { opened = b.opened.value; tables = b.view.tables; journal = b.journal.items } };
 
-    ghost invariant = { λ b. IsKept b.opened.value b.tables b.journal.items };
+    ghost invariant = { λ b. IsKept b.opened.value b.view.tables b.view.index b.journal.items };
 }
 
 impl Book {
-    /// A book over sound tables, with an empty journal. It takes no memory.
-    pub fn over(alloc: Global, tables: Tables) -> Book
+    /// A book over sound tables, with an empty journal, or the tables again where the memory for their index is not found.
+    pub fn over(alloc: Global, tables: Tables) -> Result<Book, Tables>
         requires { IsSound tables }
-        ensures { result ≡ record { opened = tables; tables = tables; journal = [] } }
+        ensures book { IfOk result (λ b. b ≡ record { opened = tables; tables = tables; journal = [] }) }
+        ensures unchanged { IfErr result (λ t. t ≡ tables) }
     {
         let opened = Snapshot::of(&tables);
-        Book {
-            tables,
-            journal: Vec::new(alloc),
-            opened,
+        match View::of(alloc, tables) {
+            Ok(view) => Ok(Book {
+                view,
+                journal: Vec::new(alloc),
+                opened,
+            }),
+            Err(tables) => Err(tables),
         }
     }
 
@@ -54,7 +63,7 @@ impl Book {
         ensures sound { IsSound result.now }
         ensures after { result.now ≡ after_journal self.now.opened self.now.journal }
     {
-        &self.tables
+        &self.view.tables
     }
 
     /// The changes that were accepted since the opening, in order.
@@ -65,6 +74,16 @@ impl Book {
         self.journal.as_slice()
     }
 
+    /// The schedule as it is and an index of it, without its journal.
+    pub fn copy(&self, alloc: Global) -> Result<View, NoMemory>
+        ensures tables { IfOk result (λ v. v.tables ≡ self.now.tables) }
+        ensures index { IfOk result (λ v. IsIndexOf v.tables v.index) }
+    {
+        let tables = self.view.tables.copy(alloc)?;
+        let index = LoadIndex::build(alloc, &tables)?;
+        Ok(View { tables, index })
+    }
+
     /// What a change comes to.
     #[tactic(none)]
     fn change(&mut self, alloc: Global, pass: u64, call: &Call, act: &Act) -> Outcome
@@ -72,17 +91,24 @@ impl Book {
         ensures turn { IsTurn self.old.tables self.old.journal pass (Change call.now act.now) result self.new.tables self.new.journal }
         ensures opened { self.new.opened ≡ self.old.opened }
     {
-        match kept_receipt(&self.tables, call) {
+        match kept_receipt(&self.view.tables, call) {
             Some(receipt) => Outcome::Repeated(receipt),
             None => outcome_of(carry_out(
                 alloc,
-                &mut self.tables,
+                &mut self.view,
                 &mut self.journal,
                 pass,
                 call,
                 act,
             )),
         }
+    }
+
+    /// What a question comes to.
+    fn told(&self, alloc: Global, query: &Query) -> Outcome
+        ensures { IsAnswerOrNone self.now.tables self.now.journal query.now result }
+    {
+        answer(alloc, &self.view, self.journal.as_slice(), query)
     }
 
     /// An outcome with the revision as it is now.
@@ -112,7 +138,7 @@ impl Book {
                 self.answered(outcome)
             }
             Command::Ask(query) => {
-                let outcome = answer(alloc, self.tables(), query);
+                let outcome = self.told(alloc, query);
                 self.answered(outcome)
             }
         }

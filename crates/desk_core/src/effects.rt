@@ -1,25 +1,26 @@
 //! What an accepted act comes to: the rows that it puts, the keys of those that it takes out, and what it gives.
 ghost use Rattle.std.specs.Prelude.{◌≡◌, ◌+◌, ◌≤◌, ◌∷◌, [], map, length, Contains, IfOk};
-ghost use Rattle.desk_base.specs.asked.Acts.{booked_receipt, bookings_from, made_by};
-ghost use Rattle.desk_base.specs.asked.Groups.{effort_minutes, group_of};
+ghost use Rattle.desk_base.specs.asked.Acts.{booked_keys, booked_receipt, bookings_from, made_by, new_bookings};
+ghost use Rattle.desk_base.specs.asked.Groups.{booked_for, effort_minutes, group_of};
 ghost use Rattle.desk_base.specs.rows.Keys.{id_key};
 ghost use Rattle.desk_base.specs.rules.Limits.{serial_limit, node_limit};
 ghost use Rattle.desk_base.specs.search.Listing.{IsFeasible};
 ghost use Rattle.desk_base.specs.meaning.Picks.{choices_of};
 ghost use Rattle.desk_base.specs.rules.Sound.{IsSound};
-ghost use Rattle.desk_base.specs.declared.rows.bookings.Receipt.TheVariants.{Cancelled, Put};
-ghost use Rattle.desk_base.specs.declared.asked.acts.Act.TheVariants.{BookGroup, CancelGroup};
+ghost use Rattle.desk_base.specs.declared.rows.bookings.Receipt.TheVariants.{Cancelled, Put, Removed};
+ghost use Rattle.desk_base.specs.declared.asked.acts.Act.TheVariants.{BookGroup, CancelGroup, MoveGroup};
 ghost use Rattle.desk_base.specs.declared.rows.tables.AnyRow.TheVariants.{Booking as BookingOf};
 ghost use Rattle.desk_base.specs.declared.rows.tables.Table.TheVariants.{Booking};
-ghost use Rattle.desk_core.specs.Built.{IsServed};
+ghost use Rattle.desk_load.specs.Index.{IsIndexOf};
 ghost use Rattle.desk_core.specs.Effects.{effect_of, effect_of_made, IsFeasibleOf, IsPlaced};
 
-use crate::group_bookings::{booked_for, effort_minutes};
+use crate::group_bookings::effort_minutes;
 use crate::new_bookings::new_bookings;
 use desk_base::{
     Act, AnyRow, AnyRows, BookingId, BookingRow, Duplicate, GroupId, GroupRow, Items, Key, Keys,
     Minute, NoMemory, Receipt, ResourceId, Table, Tables,
 };
+use desk_load::LoadIndex;
 use std::alloc::{AllocError, Global};
 
 /// What an accepted act comes to: rows that are put, keys of rows that are taken out, how many bookings are made, and what it
@@ -43,6 +44,20 @@ fn effect_of_row(alloc: Global, row: AnyRow) -> Result<Effect, NoMemory>
         removes: Items::new(alloc),
         made: 0,
         receipt: Receipt::Put,
+    })
+}
+
+/// A row that is taken out.
+fn effect_of_key(alloc: Global, key: Key) -> Result<Effect, NoMemory>
+    ensures { IfOk result (λ e. e ≡ record { puts = []; removes = key ∷ []; made = 0; receipt = Removed }) }
+{
+    let mut removes = Items::new(alloc);
+    removes.push(key)?;
+    Ok(Effect {
+        puts: Items::new(alloc),
+        removes,
+        made: 0,
+        receipt: Receipt::Removed,
     })
 }
 
@@ -74,25 +89,31 @@ fn booked_receipt(first: u32, made: &[BookingRow]) -> Receipt
     }
 }
 
-/// Bookings that are made.
-fn effect_of_made(alloc: Global, tables: &Tables, made: &[BookingRow]) -> Result<Effect, NoMemory>
+/// Bookings that are made, where those of the keys are taken out before.
+fn effect_of_made(
+    alloc: Global,
+    tables: &Tables,
+    removes: Keys,
+    made: &[BookingRow],
+) -> Result<Effect, NoMemory>
     requires numbers { tables.now.last_booking + length made.now ≤ serial_limit }
     requires some { 1 ≤ length made.now }
     requires few { length made.now ≤ node_limit }
-    ensures { IfOk result (λ e. e ≡ effect_of_made tables.now made.now) }
+    ensures { IfOk result (λ e. e ≡ effect_of_made tables.now removes made.now) }
 {
     Ok(Effect {
         puts: Items::from_vec(rows_of(alloc, made)?),
-        removes: Items::new(alloc),
+        removes,
         made: made.len() as u32,
         receipt: booked_receipt(tables.last_booking + 1, made),
     })
 }
 
-/// A group that is booked.
+/// A group that is booked for picks that are feasible.
 fn effect_of_booking(
     alloc: Global,
     tables: &Tables,
+    removes: Keys,
     group: &GroupRow,
     start: Minute,
     picks: &[Option<ResourceId>],
@@ -101,31 +122,74 @@ fn effect_of_booking(
     requires there { Contains tables.now.groups group.now }
     requires feasible { IsFeasible tables.now group.now start picks.now }
     requires numbers { tables.now.last_booking + length (choices_of 0 group.now.leaves picks.now) ≤ serial_limit }
-    ensures { IfOk result (λ e. e ≡ effect_of_made tables.now (bookings_from (tables.now.last_booking + 1) group.now start (choices_of 0 group.now.leaves picks.now))) }
+    ensures { IfOk result (λ e. e ≡ effect_of_made tables.now removes (bookings_from (tables.now.last_booking + 1) group.now start (choices_of 0 group.now.leaves picks.now))) }
 {
     // Read so that its range is known: no served leaf ends after it.
     let _end = group.to.get();
     let made = new_bookings(alloc, tables.last_booking + 1, group, start, picks)?;
-    effect_of_made(alloc, tables, made.as_slice())
+    effect_of_made(alloc, tables, removes, made.as_slice())
 }
 
-/// The group of this number is booked.
-fn effect_of_book_group(
+/// The group of this number is booked, where the bookings of the keys are taken out before.
+fn effect_of_group(
     alloc: Global,
     tables: &Tables,
+    removes: Keys,
     group: GroupId,
     start: Minute,
     picks: &[Option<ResourceId>],
 ) -> Result<Effect, NoMemory>
     requires sound { IsSound tables.now }
     requires placed { IsFeasibleOf tables.now (group_of tables.now group) start picks.now }
-    requires numbers { tables.now.last_booking + length (made_by tables.now (BookGroup group start picks.now)) ≤ serial_limit }
-    ensures { IfOk result (λ e. e ≡ effect_of tables.now (BookGroup group start picks.now)) }
+    requires numbers { tables.now.last_booking + length (new_bookings tables.now group start picks.now) ≤ serial_limit }
+    ensures { IfOk result (λ e. e ≡ effect_of_made tables.now removes (new_bookings tables.now group start picks.now)) }
 {
     match tables.group(group) {
-        Some(row) => effect_of_booking(alloc, tables, row, start, picks),
+        Some(row) => effect_of_booking(alloc, tables, removes, row, start, picks),
         None => unreachable!(),
     }
+}
+
+/// The group's standing bookings.
+fn booked_for<'a>(tables: &Tables, index: &'a LoadIndex, group: GroupId) -> &'a [BookingRow]
+    requires sound { IsSound tables.now }
+    requires index { IsIndexOf tables.now index.now }
+    ensures { result.now ≡ booked_for tables.now group }
+{
+    index.bookings_of(group)
+}
+
+/// The keys of the group's standing bookings.
+fn booked_keys(
+    alloc: Global,
+    tables: &Tables,
+    index: &LoadIndex,
+    group: GroupId,
+) -> Result<Keys, NoMemory>
+    requires sound { IsSound tables.now }
+    requires index { IsIndexOf tables.now index.now }
+    ensures { IfOk result (λ keys. keys ≡ booked_keys tables.now group) }
+{
+    Ok(Items::from_vec(keys_of(alloc, booked_for(tables, index, group))?))
+}
+
+/// The group of this number is moved: its bookings are taken out, and it is booked.
+fn effect_of_move(
+    alloc: Global,
+    tables: &Tables,
+    index: &LoadIndex,
+    group: GroupId,
+    start: Minute,
+    picks: &[Option<ResourceId>],
+) -> Result<Effect, NoMemory>
+    requires sound { IsSound tables.now }
+    requires index { IsIndexOf tables.now index.now }
+    requires placed { IsFeasibleOf tables.now (group_of tables.now group) start picks.now }
+    requires numbers { tables.now.last_booking + length (new_bookings tables.now group start picks.now) ≤ serial_limit }
+    ensures { IfOk result (λ e. e ≡ effect_of tables.now (MoveGroup group start picks.now)) }
+{
+    let removes = booked_keys(alloc, tables, index, group)?;
+    effect_of_group(alloc, tables, removes, group, start, picks)
 }
 
 fn cancelled_receipt(gone: &[BookingRow]) -> Receipt
@@ -139,40 +203,53 @@ fn cancelled_receipt(gone: &[BookingRow]) -> Receipt
 }
 
 /// The bookings of the group of this number are taken out.
-fn effect_of_cancel_group(
+fn effect_of_cancel(
     alloc: Global,
     tables: &Tables,
+    index: &LoadIndex,
     group: GroupId,
 ) -> Result<Effect, NoMemory>
-    requires { IsSound tables.now }
+    requires sound { IsSound tables.now }
+    requires index { IsIndexOf tables.now index.now }
     ensures { IfOk result (λ e. e ≡ effect_of tables.now (CancelGroup group)) }
 {
-    let gone = booked_for(alloc, tables, group)?;
+    let gone = booked_for(tables, index, group);
     Ok(Effect {
         puts: Items::new(alloc),
-        removes: Items::from_vec(keys_of(alloc, gone.as_slice())?),
+        removes: Items::from_vec(keys_of(alloc, gone)?),
         made: 0,
-        receipt: cancelled_receipt(gone.as_slice()),
+        receipt: cancelled_receipt(gone),
     })
 }
 
-/// What a served act comes to.
-pub(crate) fn effect_of(alloc: Global, tables: &Tables, act: &Act) -> Result<Effect, NoMemory>
+/// What an act comes to.
+pub(crate) fn effect_of(
+    alloc: Global,
+    tables: &Tables,
+    index: &LoadIndex,
+    act: &Act,
+) -> Result<Effect, NoMemory>
     requires sound { IsSound tables.now }
-    requires served { IsServed act.now }
+    requires index { IsIndexOf tables.now index.now }
     requires placed { IsPlaced tables.now act.now }
     requires numbers { tables.now.last_booking + length (made_by tables.now act.now) ≤ serial_limit }
     ensures { IfOk result (λ e. e ≡ effect_of tables.now act.now) }
 {
     match act {
         Act::Put(row) => effect_of_row(alloc, row.copy(alloc)?),
+        Act::Remove(key) => effect_of_key(alloc, *key),
         Act::PutGroup(group) => effect_of_row(alloc, AnyRow::Group(group.copy(alloc)?)),
+        Act::DropGroup(group) => effect_of_key(alloc, Key::of_id(Table::Group, group.get())),
         Act::BookGroup {
             group,
             start,
             picks,
-        } => effect_of_book_group(alloc, tables, *group, *start, picks.as_slice()),
-        Act::CancelGroup(group) => effect_of_cancel_group(alloc, tables, *group),
-        _ => unreachable!(),
+        } => effect_of_group(alloc, tables, Items::new(alloc), *group, *start, picks.as_slice()),
+        Act::MoveGroup {
+            group,
+            start,
+            picks,
+        } => effect_of_move(alloc, tables, index, *group, *start, picks.as_slice()),
+        Act::CancelGroup(group) => effect_of_cancel(alloc, tables, index, *group),
     }
 }

@@ -1,26 +1,23 @@
-//! Enters changes: the tables with the change, and the journal with its entry. All memory is taken before anything changes. A
-//! change that bears on room is tried out, and taken back where the standing bookings do not fit with it.
-ghost use Rattle.std.specs.Prelude.{◌≡◌, ◌+◌, ◌≤◌, ◌++◌, ◌∷◌, [], map, length, true, IfOk, IfErr, OnOk, OnErr, MatchOption};
-ghost use Rattle.desk_base.specs.asked.Acts.{after_act, made_by, receipt_of};
-ghost use Rattle.desk_base.specs.changes.Changes.{with_change};
-ghost use Rattle.desk_base.specs.rules.Limits.{serial_limit};
-ghost use Rattle.desk_base.specs.meaning.Efforts.{AreLightBookings};
+//! Enters changes: the tables with the change and their index, and the journal with its entry. All memory is taken before anything
+//! changes. A change that bears on room is judged on the changed tables, and entered where the standing bookings fit them.
+ghost use Rattle.std.specs.Prelude.{◌≡◌, ◌+◌, ◌≤◌, ◌++◌, ◌∷◌, [], map, length, true, IfOk, IfErr, OnOk, OnErr};
+ghost use Rattle.desk_base.specs.asked.Acts.{after_act, change_of, made_by, receipt_of};
+ghost use Rattle.desk_base.specs.asked.Steps.{bears_on_room, entry_of};
+ghost use Rattle.desk_base.specs.changes.Changes.{with_change, without_key};
 ghost use Rattle.desk_base.specs.meaning.Load.{Fits, ask_of};
-ghost use Rattle.desk_base.specs.rows.Lookups.{KeysRise};
-ghost use Rattle.desk_base.specs.rules.Sound.{IsSound};
-ghost use Rattle.desk_base.specs.asked.Steps.{bears_on_room, entry_of, IsConflict};
-ghost use Rattle.desk_base.specs.rules.TableLimits.{limit_of};
-ghost use Rattle.desk_base.specs.declared.rows.tables.Table.TheVariants.{Booking, Member};
-ghost use Rattle.desk_core.specs.Built.{IsServed};
+ghost use Rattle.desk_base.specs.rules.Limits.{serial_limit};
+ghost use Rattle.desk_base.specs.rules.Sound.{AreWellFormed, IsSound};
+ghost use Rattle.desk_load.specs.Index.{IsIndexOf};
 ghost use Rattle.desk_core.specs.Effects.{IsPlaced};
-ghost use Rattle.desk_core.specs.Entered.{act_bears_on_room, entered_outcome, CanBeTried, FitAfter, IsClashing, IsLateHindrance};
+ghost use Rattle.desk_core.specs.Entered.{entered_outcome, judged, CanBeEntered, FitIn, IsClashing, IsClashingIn};
 
 use crate::accepting::{Accepted, accept};
+use crate::judging::{judge_without, keep_or_take_back};
+use crate::view::View;
 use desk_base::{
-    Act, Call, Change, Clash, Entry, NoMemory, Outcome, Receipt, Refusal, Reply, Table, Tables,
-    Tried,
+    Act, Call, Change, Entry, Key, NoMemory, Outcome, Receipt, Refusal, Reply, Table, Tables,
 };
-use desk_search::clash;
+use desk_load::PreparedIndex;
 use std::alloc::Global;
 use std::mem;
 
@@ -50,152 +47,183 @@ fn bears_on_room(table: Table) -> bool
     }
 }
 
-fn act_bears_on_room(act: &Act) -> bool
-    ensures { result ≡ act_bears_on_room act.now }
-{
-    match act {
-        Act::Put(row) => bears_on_room(row.key().table),
-        _ => false,
-    }
-}
-
-/// Where the standing bookings clash.
-fn standing_clash(alloc: Global, tables: &Tables) -> Result<Option<Clash>, NoMemory>
-    requires few { length tables.now.bookings ≤ limit_of Booking }
-    requires few_members { length tables.now.members ≤ limit_of Member }
-    requires light { AreLightBookings tables.now.bookings }
-    ensures { IfOk result (λ c. MatchOption c (Fits tables.now (map ask_of tables.now.bookings ++ [])) (λ c. IsConflict tables.now tables.now.bookings [] c)) }
-{
-    clash(alloc, tables, tables.bookings.as_slice(), &[])
-}
-
-/// Keeps tables that are tried out, or takes them back where the standing bookings clash. It takes no memory but to look for
-/// clashes.
-fn keep_or_take_back(alloc: Global, tried: Tried) -> (Tables, Result<(), NotEntered>)
-    requires few { length tried.tables.bookings ≤ limit_of Booking }
-    requires few_members { length tried.tables.members ≤ limit_of Member }
-    requires light { AreLightBookings tried.tables.bookings }
-    ensures after { OnOk result.1 (result.0 ≡ tried.tables) }
-    ensures fits { OnOk result.1 (Fits tried.tables (map ask_of tried.tables.bookings ++ [])) }
-    ensures refused { IfErr result.1 (IsClashing true tried.tables) }
-    ensures before { OnErr result.1 (result.0 ≡ tried.before) }
-{
-    match standing_clash(alloc, tried.tables()) {
-        Ok(None) => (tried.keep(), Ok(())),
-        Ok(Some(clash)) => (
-            tried.take_back(),
-            Err(NotEntered::Refused(Refusal::Conflict(clash))),
-        ),
-        Err(NoMemory) => (tried.take_back(), Err(NotEntered::NoMemory)),
-    }
-}
-
-/// The tables with a change with which the standing bookings fit, or else the tables as they were.
-fn tried(alloc: Global, tables: Tables, change: Change) -> (Tables, Result<(), NotEntered>)
-    requires rise { KeysRise tables }
-    requires can_be_tried { CanBeTried tables change }
-    ensures after { OnOk result.1 (result.0 ≡ with_change tables change) }
-    ensures fits { OnOk result.1 (Fits (with_change tables change) (map ask_of (with_change tables change).bookings ++ [])) }
-    ensures refused { IfErr result.1 (IsClashing true (with_change tables change)) }
-    ensures before { OnErr result.1 (result.0 ≡ tables) }
-{
-    match tables.prepare(change) {
-        Ok(prepared) => keep_or_take_back(alloc, prepared.try_out()),
-        Err(tables) => (tables, Err(NotEntered::NoMemory)),
-    }
-}
-
-/// The tables with a change, or the tables as they were for want of memory.
-fn applied(tables: Tables, change: Change) -> (Tables, Result<(), NotEntered>)
-    requires { KeysRise tables }
-    ensures after { OnOk result.1 (result.0 ≡ with_change tables change) }
+/// The tables with a change and their index, or both as they were for want of memory.
+fn applied(
+    tables: Tables,
+    index: PreparedIndex,
+    change: Change,
+) -> (View, Result<(), NotEntered>)
+    requires { AreWellFormed tables }
+    ensures after { OnOk result.1 (result.0 ≡ record { tables = with_change tables change; index = index.after }) }
     ensures memory { IfErr result.1 (λ e. e ≡ NotEntered.NoMemory) }
-    ensures before { OnErr result.1 (result.0 ≡ tables) }
+    ensures before { OnErr result.1 (result.0 ≡ record { tables = tables; index = index.before }) }
 {
     match tables.prepare(change) {
-        Ok(prepared) => (prepared.apply(), Ok(())),
-        Err(tables) => (tables, Err(NotEntered::NoMemory)),
+        Ok(prepared) => (
+            View {
+                tables: prepared.apply(),
+                index: index.apply(),
+            },
+            Ok(()),
+        ),
+        Err(tables) => (
+            View {
+                tables,
+                index: index.give_back(),
+            },
+            Err(NotEntered::NoMemory),
+        ),
     }
 }
 
-/// The tables with a change, which is tried out where `bears` says so, or else the tables as they were.
+/// The tables with a change that only puts rows and their index, where the standing bookings fit them, or else both as they were.
+fn tried(
+    alloc: Global,
+    tables: Tables,
+    index: PreparedIndex,
+    change: Change,
+) -> (View, Result<(), NotEntered>)
+    requires formed { AreWellFormed tables }
+    requires no_removes { change.removes ≡ [] }
+    requires changed { AreWellFormed (with_change tables change) }
+    requires index { IsIndexOf (with_change tables change) index.after }
+    ensures after { OnOk result.1 (result.0 ≡ record { tables = with_change tables change; index = index.after }) }
+    ensures fits { OnOk result.1 (Fits (with_change tables change) (map ask_of (with_change tables change).bookings)) }
+    ensures refused { IfErr result.1 (IsClashing (with_change tables change)) }
+    ensures before { OnErr result.1 (result.0 ≡ record { tables = tables; index = index.before }) }
+{
+    match tables.prepare(change) {
+        Ok(prepared) => keep_or_take_back(alloc, prepared.try_out(), index),
+        Err(tables) => (
+            View {
+                tables,
+                index: index.give_back(),
+            },
+            Err(NotEntered::NoMemory),
+        ),
+    }
+}
+
+/// The tables with a change that takes out the row of a key and their index, where the standing bookings fit the tables without the
+/// row, or else both as they were.
+fn removed(
+    alloc: Global,
+    tables: Tables,
+    index: PreparedIndex,
+    key: &Key,
+    change: Change,
+) -> (View, Result<(), NotEntered>)
+    requires formed { AreWellFormed tables }
+    requires bears { bears_on_room key.now.table ≡ true }
+    requires without { AreWellFormed (without_key tables key.now) }
+    requires index { IsIndexOf (without_key tables key.now) index.after }
+    ensures after { OnOk result.1 (result.0 ≡ record { tables = with_change tables change; index = index.after }) }
+    ensures fits { OnOk result.1 (Fits (without_key tables key.now) (map ask_of (without_key tables key.now).bookings)) }
+    ensures refused { IfErr result.1 (IsClashing (without_key tables key.now)) }
+    ensures before { OnErr result.1 (result.0 ≡ record { tables = tables; index = index.before }) }
+{
+    match judge_without(alloc, tables, index.after(), key) {
+        (tables, Ok(())) => applied(tables, index, change),
+        (tables, Err(why)) => (
+            View {
+                tables,
+                index: index.give_back(),
+            },
+            Err(why),
+        ),
+    }
+}
+
+/// The tables with the change of an act and their index, or else both as they were.
 fn changed(
     alloc: Global,
     tables: Tables,
-    bears: bool,
+    index: PreparedIndex,
+    act: &Act,
     change: Change,
-) -> (Tables, Result<(), NotEntered>)
-    requires rise { KeysRise tables }
-    requires can_be_tried { bears ≡ true → CanBeTried tables change }
-    ensures after { OnOk result.1 (result.0 ≡ with_change tables change) }
-    ensures fits { bears ≡ true → OnOk result.1 (Fits (with_change tables change) (map ask_of (with_change tables change).bookings ++ [])) }
-    ensures refused { IfErr result.1 (IsClashing bears (with_change tables change)) }
-    ensures before { OnErr result.1 (result.0 ≡ tables) }
+) -> (View, Result<(), NotEntered>)
+    requires can_be_entered { CanBeEntered tables act.now change }
+    requires index { IsIndexOf (with_change tables change) index.after }
+    ensures after { OnOk result.1 (result.0 ≡ record { tables = with_change tables change; index = index.after }) }
+    ensures fits { OnOk result.1 (FitIn (judged tables act.now change)) }
+    ensures refused { IfErr result.1 (IsClashingIn (judged tables act.now change)) }
+    ensures before { OnErr result.1 (result.0 ≡ record { tables = tables; index = index.before }) }
 {
-    if bears {
-        tried(alloc, tables, change)
-    } else {
-        applied(tables, change)
+    match act {
+        Act::Put(row) => {
+            if bears_on_room(row.key().table) {
+                tried(alloc, tables, index, change)
+            } else {
+                applied(tables, index, change)
+            }
+        }
+        Act::Remove(key) => {
+            if bears_on_room(key.table) {
+                removed(alloc, tables, index, key, change)
+            } else {
+                applied(tables, index, change)
+            }
+        }
+        _ => applied(tables, index, change),
     }
 }
 
-/// Sets the tables.
-fn set(tables: &mut Tables, now: Tables)
-    ensures { tables.new ≡ now }
-{
-    *tables = now;
-}
-
-/// Makes the tables those with a change, which is tried out where `bears` says so. Where that fails they are as before.
-fn change_tables(
+/// Makes the view that of the tables with the change of an act, or changes nothing.
+fn change_view(
     alloc: Global,
-    tables: &mut Tables,
-    bears: bool,
+    view: &mut View,
+    act: &Act,
     change: Change,
 ) -> Result<(), NotEntered>
-    requires rise { KeysRise tables.old }
-    requires can_be_tried { bears ≡ true → CanBeTried tables.old change }
-    ensures after { OnOk result (tables.new ≡ with_change tables.old change) }
-    ensures fits { bears ≡ true → OnOk result (Fits (with_change tables.old change) (map ask_of (with_change tables.old change).bookings ++ [])) }
-    ensures refused { IfErr result (IsClashing bears (with_change tables.old change)) }
-    ensures before { OnErr result (tables.new ≡ tables.old) }
+    requires can_be_entered { CanBeEntered view.old.tables act.now change }
+    requires index { IsIndexOf view.old.tables view.old.index }
+    ensures after { OnOk result (view.new.tables ≡ with_change view.old.tables change) }
+    ensures index { IsIndexOf view.new.tables view.new.index }
+    ensures fits { OnOk result (FitIn (judged view.old.tables act.now change)) }
+    ensures refused { IfErr result (IsClashingIn (judged view.old.tables act.now change)) }
+    ensures before { OnErr result (view.new.tables ≡ view.old.tables) }
 {
-    let before = mem::replace(tables, Tables::empty(alloc));
-    let (after, outcome) = changed(alloc, before, bears, change);
-    set(tables, after);
+    let View { tables, index } = mem::replace(view, View::none(alloc));
+    let (after, outcome) = match index.prepare(alloc, &tables, &change) {
+        Ok(index) => changed(alloc, tables, index, act, change),
+        Err(index) => (View { tables, index }, Err(NotEntered::NoMemory)),
+    };
+    *view = after;
     outcome
 }
 
-/// Makes the tables those after a served change, and adds its entry to the journal, or changes nothing.
+/// Makes the tables those after a change, and adds its entry to the journal, or changes nothing.
 pub(crate) fn enter(
     alloc: Global,
-    tables: &mut Tables,
+    view: &mut View,
     journal: &mut Vec<Entry>,
     pass: u64,
     call: &Call,
     act: &Act,
 ) -> Result<Receipt, NotEntered>
-    requires sound { IsSound tables.old }
-    requires served { IsServed act.now }
-    requires placed { IsPlaced tables.old act.now }
-    requires numbers { tables.old.last_booking + length (made_by tables.old act.now) ≤ serial_limit }
-    ensures receipt { IfOk result (λ receipt. receipt ≡ receipt_of tables.old act.now) }
-    ensures after { OnOk result (tables.new ≡ after_act tables.old call.now act.now) }
-    ensures fits { OnOk result (FitAfter tables.old call.now act.now) }
-    ensures entered { OnOk result (journal.new.items ≡ journal.old.items ++ entry_of tables.old pass call.now act.now ∷ []) }
-    ensures refused { IfErr result (IsLateHindrance tables.old call.now act.now) }
-    ensures same_tables { OnErr result (tables.new ≡ tables.old) }
+    requires sound { IsSound view.old.tables }
+    requires index { IsIndexOf view.old.tables view.old.index }
+    requires can_be_entered { CanBeEntered view.old.tables act.now (change_of view.old.tables call.now act.now) }
+    requires placed { IsPlaced view.old.tables act.now }
+    requires numbers { view.old.tables.last_booking + length (made_by view.old.tables act.now) ≤ serial_limit }
+    ensures receipt { IfOk result (λ receipt. receipt ≡ receipt_of view.old.tables act.now) }
+    ensures after { OnOk result (view.new.tables ≡ after_act view.old.tables call.now act.now) }
+    ensures index { IsIndexOf view.new.tables view.new.index }
+    ensures fits { OnOk result (FitIn (judged view.old.tables act.now (change_of view.old.tables call.now act.now))) }
+    ensures entered { OnOk result (journal.new.items ≡ journal.old.items ++ entry_of view.old.tables pass call.now act.now ∷ []) }
+    ensures refused { IfErr result (IsClashingIn (judged view.old.tables act.now (change_of view.old.tables call.now act.now))) }
+    ensures same_tables { OnErr result (view.new.tables ≡ view.old.tables) }
     ensures same_journal { OnErr result (journal.new.items ≡ journal.old.items) }
 {
     let Ok(()) = journal.reserve(1) else {
         return Err(NotEntered::NoMemory);
     };
-    let Ok(accepted) = accept(alloc, tables, pass, call, act) else {
+    let Ok(accepted) = accept(alloc, view, pass, call, act) else {
         return Err(NotEntered::NoMemory);
     };
     let Accepted { change, entry } = accepted;
     let receipt = entry.receipt;
-    change_tables(alloc, tables, act_bears_on_room(act), change)?;
+    change_view(alloc, view, act, change)?;
     journal.push_reserved(entry);
     Ok(receipt)
 }

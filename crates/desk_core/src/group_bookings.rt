@@ -1,38 +1,9 @@
-//! The standing bookings of a group, and what bookings come to.
-ghost use Rattle.std.specs.Prelude.{◌≡◌, ◌-◌, ◌*◌, ◌≤◌, ◌^◌, length, IfOk};
+//! What bookings come to.
+ghost use Rattle.std.specs.Prelude.{◌≡◌, ◌-◌, ◌*◌, ◌≤◌, ◌^◌, length};
 ghost use Rattle.desk_base.specs.rules.Limits.{first_minute, end_of_minutes, node_limit};
-ghost use Rattle.desk_base.specs.asked.Groups.{booked_for, effort_minutes, is_booked};
+ghost use Rattle.desk_base.specs.asked.Groups.{effort_minutes};
 
-use desk_base::{BookingRow, GroupId, Tables};
-use std::alloc::{AllocError, Global};
-
-/// Bookings of the group stand.
-pub(crate) fn is_booked(tables: &Tables, group: GroupId) -> bool
-    ensures { result ≡ is_booked tables.now group }
-{
-    tables
-        .bookings
-        .as_slice()
-        .iter()
-        .any(|b| b.group.get() == group.get())
-}
-
-/// The group's standing bookings.
-pub(crate) fn booked_for(
-    alloc: Global,
-    tables: &Tables,
-    group: GroupId,
-) -> Result<Vec<BookingRow>, AllocError>
-    ensures { IfOk result (λ v. v.items ≡ booked_for tables.now group) }
-{
-    tables
-        .bookings
-        .as_slice()
-        .iter()
-        .filter(|b| b.group.get() == group.get())
-        .copied()
-        .collect(alloc)
-}
+use desk_base::BookingRow;
 
 /// Effort times minutes of a booking.
 fn effort_minutes_of(booking: &BookingRow) -> u64

@@ -4,17 +4,15 @@
 mod accepting;
 mod answering;
 mod book;
-mod callers;
 mod changing;
-mod citing;
-mod early;
 mod effects;
 mod entering;
 mod group_bookings;
-mod group_rules;
+mod journaled;
+mod judging;
 mod new_bookings;
-mod row_places;
-mod row_rules;
 mod searching;
+mod view;
 
 pub use book::Book;
+pub use view::View;

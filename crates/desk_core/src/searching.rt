@@ -3,9 +3,11 @@ ghost use Rattle.std.specs.Prelude.{◌≡◌, ◌<◌, [], Some, Contains, IfOk
 ghost use Rattle.desk_base.specs.rules.Sound.{IsSound};
 ghost use Rattle.desk_base.specs.search.Page.{IsPage, IsAskable};
 ghost use Rattle.desk_feasible.specs.Live.{IsReady};
+ghost use Rattle.desk_load.specs.Index.{IsIndexOf};
 
-use desk_base::{GroupRow, NoMemory, Options, Page, Position, Steps, Tables};
-use desk_load::{FreeView, LoadIndex};
+use crate::view::View;
+use desk_base::{GroupRow, NoMemory, Options, Page, Position, Steps};
+use desk_load::FreeView;
 use desk_need::Case;
 use desk_pages::page;
 use std::alloc::Global;
@@ -40,25 +42,25 @@ fn page_over<L: Ledger>(
 /// The page of a group of a sound schedule, over what is free without the group's own bookings.
 pub(crate) fn searched(
     alloc: Global,
-    tables: &Tables,
+    view: &View,
     group: &GroupRow,
     options: &Options,
     after: Option<&Position>,
     shown: u16,
     limit: u16,
 ) -> Result<Page, NoMemory>
-    requires sound { IsSound tables.now }
-    requires there { Contains tables.now.groups group.now }
+    requires sound { IsSound view.now.tables }
+    requires index { IsIndexOf view.now.tables view.now.index }
+    requires there { Contains view.now.tables.groups group.now }
     requires askable { IsAskable options.now limit }
-    ensures { IfOk result (IsPage tables.now group.now options.now (record { after = option_copied after.entry; shown = shown }) limit) }
+    ensures { IfOk result (IsPage view.now.tables group.now options.now (record { after = option_copied after.entry; shown = shown }) limit) }
 {
-    let index = LoadIndex::build(alloc, tables)?;
-    let case = Case::build(alloc, tables, group)?;
-    let mut view = FreeView::build(alloc, &index, tables, Some(group.id))?;
+    let case = Case::build(alloc, &view.tables, group)?;
+    let mut free = FreeView::build(alloc, &view.index, &view.tables, Some(group.id))?;
     let page = page_over::<Brand>(
         alloc,
         &case,
-        &mut view,
+        &mut free,
         options,
         after,
         shown,
