@@ -14,6 +14,7 @@ use Rattle.desk_base.specs.declared.rows.groups.GroupRow.{GroupRow}
 use Rattle.desk_base.specs.declared.rows.tables.Key.{Key}
 use Rattle.desk_base.specs.declared.search.results.Cursor.{Cursor}
 use Rattle.desk_base.specs.declared.search.results.Options.{Options}
+use Rattle.desk_base.specs.declared.asked.acts.Entry.{Entry}
 use Rattle.desk_base.specs.declared.asked.answers.Query.TheVariants.{Rows as RowsOf}
 use Rattle.desk_base.specs.declared.asked.answers.Outcome.{Outcome}
 use Rattle.desk_base.specs.declared.asked.answers.Outcome.TheVariants.{Done, Repeated, Refused, NoMemory}
@@ -99,14 +100,15 @@ found_group t id g e =
     ]
 
 -- what a page of a group comes to is the answer
-pub page_answers : (t : Tables) (id : ℕ) (g : GroupRow) (o : Options) (after : Option Cursor) (latest : Bool) (limit : ℕ) (out : Outcome) → Some g ≡ group_of t id
-    → refused_known t o after latest limit ≡ None → IsPageOrNone t g o (point_of after) limit out → IsAnswerOrNone t (RowsOf id o after latest limit) out
-page_answers t id g o after latest limit (Done (Rows page)) e r h = inl (known_page t id g o after latest limit e ∙ r, (g, sym e, h))
-page_answers t id g o after latest limit (Done (reply.Change receipt)) e r h = absurd h
-page_answers t id g o after latest limit (Done reply.Revision) e r h = absurd h
-page_answers t id g o after latest limit (Repeated receipt) e r h = absurd h
-page_answers t id g o after latest limit (Refused why) e r h = absurd h
-page_answers t id g o after latest limit NoMemory e r h = inr refl
+pub page_answers : (t : Tables) (journal : List Entry) (id : ℕ) (g : GroupRow) (o : Options) (after : Option Cursor) (latest : Bool) (limit : ℕ) (out : Outcome) → Some g ≡ group_of t id
+    → refused_known t o after latest limit ≡ None → IsPageOrNone t g o (point_of after) limit out → IsAnswerOrNone t journal (RowsOf id o after latest limit) out
+page_answers t journal id g o after latest limit (Done (Rows page)) e r h = inl (known_page t id g o after latest limit e ∙ r, (g, sym e, h))
+page_answers t journal id g o after latest limit (Done (reply.Change receipt)) e r h = absurd h
+page_answers t journal id g o after latest limit (Done (reply.Journal summaries)) e r h = absurd h
+page_answers t journal id g o after latest limit (Done reply.Revision) e r h = absurd h
+page_answers t journal id g o after latest limit (Repeated receipt) e r h = absurd h
+page_answers t journal id g o after latest limit (Refused why) e r h = absurd h
+page_answers t journal id g o after latest limit NoMemory e r h = inr refl
 
 -- a page that is not refused may be asked for
 first_passes : {A : Type 0} (o p : Option A) → option_or o p ≡ None → (o ≡ None) × (p ≡ None)

@@ -1,9 +1,10 @@
 -- Lemmas of the scheduler.
 pub mod GroupsThere
 pub mod Counters
-pub mod EarlyParts
-pub mod Picking
 pub mod GroupCounts
-pub mod Trying
+pub mod Booked
+pub mod Judged
+pub mod Revisions
+pub mod Elsewhere
 pub mod Unrefused
 pub mod Outcomes

@@ -1,5 +1,5 @@
 -- What comes of a served change: what the book keeps, and the outcome.
-use Rattle.std.proofs.Common.{◌≡◌, ℕ, List, [], ◌∷◌, ◌++◌, Some, None, inl, inr, refl, sym, subst}
+use Rattle.std.proofs.Common.{◌≡◌, ℕ, List, [], ◌∷◌, ◌++◌, Some, None, inl, inr, refl, sym, ap, ◌∙◌, subst}
 use Rattle.std.specs.Prelude.{Result, Ok, Err, IfOk, IfErr, OnOk, OnErr}
 use Rattle.desk_base.specs.declared.rows.tables.Tables.{Tables}
 use Rattle.desk_base.specs.declared.rows.bookings.Receipt.{Receipt}
@@ -14,7 +14,10 @@ use Rattle.desk_base.specs.declared.asked.answers.Reply.TheVariants as reply
 use Rattle.desk_base.specs.rules.Sound.{IsSound}
 use Rattle.desk_base.specs.asked.Acts.{after_act, receipt_of}
 use Rattle.desk_base.specs.asked.Steps.{IsAccepted, IsChanged, IsTurn, kept_receipt, entry_of}
+use Rattle.desk_base.specs.asked.Histories.{IsLegal, after_journal}
 use Rattle.desk_base.proofs.histories.Journals.{legal_entry}
+use Rattle.desk_load.specs.Index.{IsIndexOf}
+use Rattle.desk_load.specs.Parted.{IndexParts}
 use Rattle.desk_core.specs.declared.entering.NotEntered.{NotEntered}
 use Rattle.desk_core.specs.declared.entering.NotEntered.TheVariants.{Refused, NoMemory}
 use Rattle.desk_core.specs.Books.{IsKept}
@@ -23,18 +26,25 @@ use Rattle.desk_core.specs.Entered.{entered_outcome, IsHindrance}
 
 -- ---- a change that is not the caller's last
 
-module _ (opened t : Tables) (journal : List Entry) (pass : ℕ) (call : Call) (a : Act) (fresh : kept_receipt t call ≡ None) where
-  kept_entered : IsKept opened t journal → IsAccepted t journal call a → IsSound (after_act t call a) → IsKept opened (after_act t call a) (journal ++ entry_of t pass call a ∷ [])
-  kept_entered kept ok s = let l = legal_entry opened t journal pass call a kept.after kept.legal fresh ok in record { sound = s; legal = l.1; after = l.0 }
-
+module _ (opened t : Tables) (index index' : IndexParts) (journal : List Entry) (pass : ℕ) (call : Call) (a : Act) (fresh : kept_receipt t call ≡ None) where
   -- whatever came of it, the book keeps what it keeps
-  pub kept_by : (r : Result Receipt NotEntered) (t' : Tables) (journal' : List Entry) → IsKept opened t journal → OnOk r (IsAccepted t journal call a) → IsSound t'
-      → OnOk r (t' ≡ after_act t call a) → OnOk r (journal' ≡ journal ++ entry_of t pass call a ∷ []) → OnErr r (t' ≡ t) → OnErr r (journal' ≡ journal) → IsKept opened t' journal'
-  kept_by (Ok receipt) t' journal' kept ok s h k m n =
-      subst (λ (u : Tables). IsKept opened u journal') (sym h)
-      (subst (λ (j : List Entry). IsKept opened (after_act t call a) j) (sym k) (kept_entered kept ok (subst (λ (u : Tables). IsSound u) h s)))
-  kept_by (Err x) t' journal' kept ok s h k m n = subst (λ (u : Tables). IsKept opened u journal') (sym m) (subst (λ (j : List Entry). IsKept opened t j) (sym n) kept)
+  pub kept_by : (r : Result Receipt NotEntered) (t' : Tables) (journal' : List Entry) → IsKept opened t index journal → OnOk r (IsAccepted t journal call a) → IsSound t' → IsIndexOf t' index'
+      → OnOk r (t' ≡ after_act t call a) → OnOk r (journal' ≡ journal ++ entry_of t pass call a ∷ []) → OnErr r (t' ≡ t) → OnErr r (journal' ≡ journal) → IsKept opened t' index' journal'
+  kept_by (Ok receipt) t' journal' kept ok s i h k m n =
+      let l = legal_entry opened t journal pass call a kept.after kept.legal fresh ok in record {
+        sound = s;
+        indexed = i;
+        legal = subst (IsLegal opened) (sym k) l.1;
+        after = h ∙ l.0 ∙ ap (after_journal opened) (sym k);
+      }
+  kept_by (Err x) t' journal' kept ok s i h k m n = record {
+    sound = s;
+    indexed = i;
+    legal = subst (IsLegal opened) (sym n) kept.legal;
+    after = m ∙ kept.after ∙ ap (after_journal opened) (sym n);
+  }
 
+module _ (t : Tables) (journal : List Entry) (pass : ℕ) (call : Call) (a : Act) (fresh : kept_receipt t call ≡ None) where
   -- and the outcome is that of a turn
   pub turn_by : (r : Result Receipt NotEntered) (t' : Tables) (journal' : List Entry) → OnOk r (IsAccepted t journal call a) → IfOk r (λ receipt. receipt ≡ receipt_of t a)
       → OnOk r (t' ≡ after_act t call a) → OnOk r (journal' ≡ journal ++ entry_of t pass call a ∷ []) → IfErr r (IsHindrance t journal call a) → OnErr r (t' ≡ t) → OnErr r (journal' ≡ journal)
@@ -51,6 +61,6 @@ repeated_turn t journal pass call a receipt e = inl (subst (λ k. IsChanged t jo
 
 -- ---- questions
 
-pub asked_turn : (t : Tables) (journal : List Entry) (pass : ℕ) (q : Query) (out : Outcome) → IsAnswerOrNone t q out → IsTurn t journal pass (command.Ask q) out t journal
+pub asked_turn : (t : Tables) (journal : List Entry) (pass : ℕ) (q : Query) (out : Outcome) → IsAnswerOrNone t journal q out → IsTurn t journal pass (command.Ask q) out t journal
 asked_turn t journal pass q out (inl h) = inl (h, (refl, refl))
 asked_turn t journal pass q out (inr e) = inr (e, (refl, refl))

@@ -16,6 +16,6 @@ pub record BookState : Type 0 where
 -- the tables are sound, the index is theirs, the journal is legal over the tables at the opening, and leads from them to those that are now
 pub record IsKept (opened tables : Tables) (index : IndexParts) (journal : List Entry) : Type 0 where
   pub sound : IsSound tables
-  pub index : IsIndexOf tables index
+  pub indexed : IsIndexOf tables index
   pub legal : IsLegal opened journal
   pub after : tables ≡ after_journal opened journal

@@ -244,7 +244,14 @@ pub(crate) fn effect_of(
             group,
             start,
             picks,
-        } => effect_of_group(alloc, tables, Items::new(alloc), *group, *start, picks.as_slice()),
+        } => effect_of_group(
+            alloc,
+            tables,
+            Items::new(alloc),
+            *group,
+            *start,
+            picks.as_slice(),
+        ),
         Act::MoveGroup {
             group,
             start,

@@ -17,7 +17,7 @@ use crate::view::View;
 use desk_base::{
     Act, Call, Change, Entry, Key, NoMemory, Outcome, Receipt, Refusal, Reply, Table, Tables,
 };
-use desk_load::PreparedIndex;
+use desk_load::{LoadIndex, PreparedIndex};
 use std::alloc::Global;
 use std::mem;
 
@@ -48,11 +48,7 @@ fn bears_on_room(table: Table) -> bool
 }
 
 /// The tables with a change and their index, or both as they were for want of memory.
-fn applied(
-    tables: Tables,
-    index: PreparedIndex,
-    change: Change,
-) -> (View, Result<(), NotEntered>)
+fn applied(tables: Tables, index: PreparedIndex, change: Change) -> (View, Result<(), NotEntered>)
     requires { AreWellFormed tables }
     ensures after { OnOk result.1 (result.0 ≡ record { tables = with_change tables change; index = index.after }) }
     ensures memory { IfErr result.1 (λ e. e ≡ NotEntered.NoMemory) }
@@ -168,13 +164,37 @@ fn changed(
     }
 }
 
-/// Makes the view that of the tables with the change of an act, or changes nothing.
-fn change_view(
+/// The tables with the change of an act and their index, or else the tables as they were and theirs.
+fn followed(
     alloc: Global,
-    view: &mut View,
+    tables: Tables,
+    index: LoadIndex,
     act: &Act,
     change: Change,
-) -> Result<(), NotEntered>
+) -> (View, Result<(), NotEntered>)
+    requires can_be_entered { CanBeEntered tables act.now change }
+    requires index { IsIndexOf tables index }
+    ensures after { OnOk result.1 (result.0.tables ≡ with_change tables change) }
+    ensures index { IsIndexOf result.0.tables result.0.index }
+    ensures fits { OnOk result.1 (FitIn (judged tables act.now change)) }
+    ensures refused { IfErr result.1 (IsClashingIn (judged tables act.now change)) }
+    ensures before { OnErr result.1 (result.0.tables ≡ tables) }
+{
+    match index.prepare(alloc, &tables, &change) {
+        Ok(index) => changed(alloc, tables, index, act, change),
+        Err(index) => (View { tables, index }, Err(NotEntered::NoMemory)),
+    }
+}
+
+/// Sets the view.
+fn set(view: &mut View, now: View)
+    ensures { view.new ≡ now }
+{
+    *view = now;
+}
+
+/// Makes the view that of the tables with the change of an act, or leaves the tables as they are.
+fn change_view(alloc: Global, view: &mut View, act: &Act, change: Change) -> Result<(), NotEntered>
     requires can_be_entered { CanBeEntered view.old.tables act.now change }
     requires index { IsIndexOf view.old.tables view.old.index }
     ensures after { OnOk result (view.new.tables ≡ with_change view.old.tables change) }
@@ -184,11 +204,8 @@ fn change_view(
     ensures before { OnErr result (view.new.tables ≡ view.old.tables) }
 {
     let View { tables, index } = mem::replace(view, View::none(alloc));
-    let (after, outcome) = match index.prepare(alloc, &tables, &change) {
-        Ok(index) => changed(alloc, tables, index, act, change),
-        Err(index) => (View { tables, index }, Err(NotEntered::NoMemory)),
-    };
-    *view = after;
+    let (after, outcome) = followed(alloc, tables, index, act, change);
+    set(view, after);
     outcome
 }
 

@@ -29,7 +29,18 @@ fn above(last: u64, journal: &[Entry], from: u64) -> &[Entry]
 fn first_of(entries: &[Entry]) -> &[Entry]
     ensures { result.now ≡ take summary_limit entries.now }
 {
-    &entries[..entries.len().min(SUMMARY_LIMIT)]
+    &entries[..SUMMARY_LIMIT.min(entries.len())]
+}
+
+/// What is shown of entries.
+fn summaries_of(alloc: Global, entries: &[Entry]) -> Result<Summaries, NoMemory>
+    ensures { IfOk result (λ shown. shown ≡ map summary_of entries.now) }
+{
+    let mut shown = Items::new(alloc);
+    for entry in entries {
+        shown.push(entry.summary())?;
+    }
+    Ok(shown)
 }
 
 /// What is shown of the first entries of a journal above a revision. It looks at these entries alone.
@@ -42,9 +53,6 @@ pub(crate) fn summaries(
     requires { AreNumbered last journal.now }
     ensures { IfOk result (λ shown. shown ≡ summaries_from journal.now from) }
 {
-    let mut shown = Items::new(alloc);
-    for entry in first_of(above(last, journal, from)) {
-        shown.push(entry.summary())?;
-    }
+    let shown = summaries_of(alloc, first_of(above(last, journal, from)))?;
     Ok(shown)
 }

@@ -1,5 +1,5 @@
 //! Whether the standing bookings fit a change of rows that say when resources have room.
-ghost use Rattle.std.specs.Prelude.{◌≡◌, true, map, IfOk, IfErr, OnOk, OnErr, MatchOption};
+ghost use Rattle.std.specs.Prelude.{◌≡◌, [], true, map, IfOk, IfErr, OnOk, OnErr, MatchOption};
 ghost use Rattle.desk_base.specs.asked.Steps.{bears_on_room, IsConflict};
 ghost use Rattle.desk_base.specs.changes.Changes.{without_key};
 ghost use Rattle.desk_base.specs.declared.rows.resources.ResourceRow.{ResourceRow};

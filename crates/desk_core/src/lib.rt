@@ -12,6 +12,7 @@ mod journaled;
 mod judging;
 mod new_bookings;
 mod searching;
+mod stub;
 mod view;
 
 pub use book::Book;

@@ -3,7 +3,7 @@ use Rattle.desk_base.specs.meaning.Picks.{choices_of}
 use Rattle.desk_base.proofs.tables.Sounds.{well_formed}
 use Rattle.desk_base.proofs.meaning.Shapes.{few_leaves}
 use Rattle.desk_base.proofs.booked.NewBookings.{length-bookings_from}
-use Rattle.desk_search.proofs.Asks.{ends_fit}
+use Rattle.desk_feasible.proofs.Asked.{ends_fit}
 use Rattle.desk_base.proofs.meaning.Chosen.{choices-le-leaves, some_chosen}
 use Rattle.desk_core.proofs.effects.effect_of_booking.Goals as goal
 

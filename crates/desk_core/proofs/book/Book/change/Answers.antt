@@ -13,27 +13,30 @@ same-self c = refl
 pub carry_out-requires-clause-sound : goal.carry_out-requires-clause-sound
 carry_out-requires-clause-sound c = c.self.invariant.sound
 
+pub carry_out-requires-clause-index : goal.carry_out-requires-clause-index
+carry_out-requires-clause-index c = c.self.invariant.indexed
+
 pub carry_out-requires-clause-served : goal.carry_out-requires-clause-served
 carry_out-requires-clause-served c = c.requires
 
 pub invariant_of-self : goal.invariant_of-self
 invariant_of-self c =
-    kept_by c.self.inside.opened.value c.self.inside.tables c.self.inside.journal.items c.args.pass c.args.call.now c.args.act.now (sym c.in-None.ensures) c.carry_out.result c.carry_out.new.tables c.carry_out.new.journal.items
-    c.self.invariant c.carry_out.ensures.accepted c.carry_out.ensures.sound c.carry_out.ensures.after c.carry_out.ensures.entered c.carry_out.ensures.same_tables c.carry_out.ensures.same_journal
+    kept_by c.self.inside.opened.value c.self.inside.view.tables c.self.inside.view.index c.carry_out.new.view.index c.self.inside.journal.items c.args.pass c.args.call.now c.args.act.now (sym c.in-None.ensures) c.carry_out.result c.carry_out.new.view.tables c.carry_out.new.journal.items
+    c.self.invariant c.carry_out.ensures.accepted c.carry_out.ensures.sound c.carry_out.ensures.index c.carry_out.ensures.after c.carry_out.ensures.entered c.carry_out.ensures.same_tables c.carry_out.ensures.same_journal
 
 pub returns-in-Some-clause-turn : goal.returns-in-Some-clause-turn
 returns-in-Some-clause-turn c =
     subst (λ (b : BookState). IsTurn b.tables b.journal c.args.pass (Change c.args.call.now c.args.act.now) (outcome.Repeated c.in-Some.receipt) b.tables b.journal) c.self.view_is
-    (repeated_turn c.self.inside.tables c.self.inside.journal.items c.args.pass c.args.call.now c.args.act.now c.in-Some.receipt c.in-Some.ensures)
+    (repeated_turn c.self.inside.view.tables c.self.inside.journal.items c.args.pass c.args.call.now c.args.act.now c.in-Some.receipt c.in-Some.ensures)
 
 pub returns-in-Some-clause-opened : goal.returns-in-Some-clause-opened
 returns-in-Some-clause-opened c = refl
 
 pub returns-in-None-clause-turn : goal.returns-in-None-clause-turn
 returns-in-None-clause-turn c =
-    subst (λ (b : BookState). IsTurn b.tables b.journal c.args.pass (Change c.args.call.now c.args.act.now) c.outcome_of.result c.carry_out.new.tables c.carry_out.new.journal.items) c.self.view_is
-    (subst (λ (o : Outcome). IsTurn c.self.inside.tables c.self.inside.journal.items c.args.pass (Change c.args.call.now c.args.act.now) o c.carry_out.new.tables c.carry_out.new.journal.items) (sym c.outcome_of.ensures)
-    (turn_by c.self.inside.opened.value c.self.inside.tables c.self.inside.journal.items c.args.pass c.args.call.now c.args.act.now (sym c.in-None.ensures) c.carry_out.result c.carry_out.new.tables c.carry_out.new.journal.items
+    subst (λ (b : BookState). IsTurn b.tables b.journal c.args.pass (Change c.args.call.now c.args.act.now) c.outcome_of.result c.carry_out.new.view.tables c.carry_out.new.journal.items) c.self.view_is
+    (subst (λ (o : Outcome). IsTurn c.self.inside.view.tables c.self.inside.journal.items c.args.pass (Change c.args.call.now c.args.act.now) o c.carry_out.new.view.tables c.carry_out.new.journal.items) (sym c.outcome_of.ensures)
+    (turn_by c.self.inside.view.tables c.self.inside.journal.items c.args.pass c.args.call.now c.args.act.now (sym c.in-None.ensures) c.carry_out.result c.carry_out.new.view.tables c.carry_out.new.journal.items
     c.carry_out.ensures.accepted c.carry_out.ensures.receipt c.carry_out.ensures.after c.carry_out.ensures.entered c.carry_out.ensures.refused c.carry_out.ensures.same_tables c.carry_out.ensures.same_journal))
 
 pub returns-in-None-clause-opened : goal.returns-in-None-clause-opened

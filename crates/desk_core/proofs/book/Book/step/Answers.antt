@@ -1,18 +1,13 @@
 use Rattle.std.proofs.Common.{refl, sym, subst}
-use Rattle.desk_base.specs.declared.rows.tables.Tables.{Tables}
 use Rattle.desk_base.specs.declared.asked.answers.Command.{Command}
 use Rattle.desk_base.specs.declared.asked.answers.Outcome.{Outcome}
 use Rattle.desk_base.specs.asked.Steps.{IsTurn}
-use Rattle.desk_core.specs.Answering.{IsAnswerOrNone}
 use Rattle.desk_core.specs.Built.{IsBuilt}
 use Rattle.desk_core.proofs.Outcomes.{asked_turn}
 use Rattle.desk_core.proofs.book.Book.step.Goals as goal
 
 pub change-outcome-requires : goal.change-outcome-requires
 change-outcome-requires c = subst (λ (k : Command). IsBuilt k) c.in-Change.is c.requires
-
-pub answer-outcome-requires : goal.answer-outcome-requires
-answer-outcome-requires c = c.tables.ensures.sound
 
 pub returns-in-Change-clause-step : goal.returns-in-Change-clause-step
 returns-in-Change-clause-step c =
@@ -28,8 +23,8 @@ returns-in-Change-clause-opened c = c.change-outcome.ensures.opened
 pub returns-in-Ask-clause-step : goal.returns-in-Ask-clause-step
 returns-in-Ask-clause-step c =
     subst (λ (o : Outcome). IsTurn c.args.self.now.tables c.args.self.now.journal c.args.pass c.args.command.now o c.args.self.now.tables c.args.self.now.journal) (sym c.answered-in-Ask.ensures.outcome)
-    (subst (λ (k : Command). IsTurn c.args.self.now.tables c.args.self.now.journal c.args.pass k c.answer-outcome.result c.args.self.now.tables c.args.self.now.journal) (sym c.in-Ask.is)
-    (asked_turn c.args.self.now.tables c.args.self.now.journal c.args.pass c.in-Ask.query c.answer-outcome.result (subst (λ (t : Tables). IsAnswerOrNone t c.in-Ask.query c.answer-outcome.result) c.tables.ensures.value c.answer-outcome.ensures)))
+    (subst (λ (k : Command). IsTurn c.args.self.now.tables c.args.self.now.journal c.args.pass k c.told-outcome.result c.args.self.now.tables c.args.self.now.journal) (sym c.in-Ask.is)
+    (asked_turn c.args.self.now.tables c.args.self.now.journal c.args.pass c.in-Ask.query c.told-outcome.result c.told-outcome.ensures))
 
 pub returns-in-Ask-clause-revision : goal.returns-in-Ask-clause-revision
 returns-in-Ask-clause-revision c = c.answered-in-Ask.ensures.revision

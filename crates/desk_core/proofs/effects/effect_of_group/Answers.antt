@@ -4,7 +4,7 @@ use Rattle.desk_base.specs.meaning.Picks.{choices_of}
 use Rattle.desk_base.proofs.booked.NewBookings.{length-bookings_from}
 use Rattle.desk_base.proofs.booked.FeasibleBookings.{new_is}
 use Rattle.desk_core.proofs.GroupsThere.{found_group}
-use Rattle.desk_core.proofs.effects.effect_of_book_group.Goals as goal
+use Rattle.desk_core.proofs.effects.effect_of_group.Goals as goal
 
 pub group-requires : goal.group-requires
 group-requires c table = keys_rise c.args.tables.now table c.requires.sound

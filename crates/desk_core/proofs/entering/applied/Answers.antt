@@ -1,0 +1,5 @@
+use Rattle.desk_base.proofs.tables.Sounds.{keys_in_order}
+use Rattle.desk_core.proofs.entering.applied.Goals as goal
+
+pub prepare-requires : goal.prepare-requires
+prepare-requires c = λ table. keys_in_order c.args.tables table c.requires.order
