@@ -1,7 +1,0 @@
-use Rattle.std.proofs.Common.{◌≡◌, take, filter}
-use Rattle.desk_base.specs.declared.rows.calendars.ZoneRow.{ZoneRow}
-use Rattle.desk_search.specs.Extracts.{is_listed}
-use Rattle.desk_search.proofs.extracts.zones_among.Given as goal
-
-abbrev pub invariant-loop-row : goal.invariant-loop-row
-invariant-loop-row l = (l.row-items ≡ l.tables.zones) × (l.rows ≡ filter (λ (x : ZoneRow). is_listed l.ids x.id) (take l.row-index l.row-items))

@@ -1,5 +1,0 @@
-use Rattle.std.proofs.Common.{length}
-use Rattle.desk_search.proofs.search.crews.+are_members.Given as goal
-
-abbrev pub decreases-are_members : goal.decreases-are_members
-decreases-are_members l = length l.leaves.now

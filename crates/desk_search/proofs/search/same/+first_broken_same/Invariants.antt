@@ -1,5 +1,0 @@
-use Rattle.std.proofs.Common.{length}
-use Rattle.desk_search.proofs.search.same.+first_broken_same.Given as goal
-
-abbrev pub decreases-first_broken_same : goal.decreases-first_broken_same
-decreases-first_broken_same l = length l.nodes.now

@@ -1,5 +1,0 @@
-use Rattle.std.proofs.Common.{length}
-use Rattle.tests_search.proofs.clashes.+are_light_bookings.Given as goal
-
-abbrev pub decreases-are_light_bookings : goal.decreases-are_light_bookings
-decreases-are_light_bookings l = length l.bookings.now
