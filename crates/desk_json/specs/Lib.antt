@@ -7,6 +7,7 @@ pub mod CursorReading
 pub mod Pages
 pub mod Receipts
 pub mod Refusals
+pub mod Journals
 pub mod Answers
 pub mod AnsweredPages
 pub mod Faults

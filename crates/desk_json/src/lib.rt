@@ -9,6 +9,7 @@ mod cursors;
 mod decimals;
 mod faults;
 mod fields;
+mod journals;
 pub mod laws;
 mod lists;
 mod moments;
