@@ -16,6 +16,6 @@ pub mod Reading
 pub mod Lists
 pub mod Forms
 pub mod TreeReading
-pub mod RowForms
+pub mod Tables
 pub mod Bodies
 pub mod Asked
