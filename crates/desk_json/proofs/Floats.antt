@@ -7,6 +7,7 @@ use Rattle.desk_base.specs.declared.search.results.Found.{Found}
 use Rattle.desk_base.specs.declared.search.results.Position.{Position}
 use Rattle.desk_base.specs.declared.rows.bookings.Receipt.{Receipt}
 use Rattle.desk_base.specs.declared.rows.bookings.Receipt.TheVariants.{Put, Removed, Booked, Cancelled}
+use Rattle.desk_base.specs.declared.asked.summaries.Summary.{Summary}
 use Rattle.desk_base.specs.declared.asked.refusals.Shown.{Shown}
 use Rattle.desk_base.specs.declared.asked.refusals.Shown.TheVariants as shown
 use Rattle.desk_base.specs.declared.asked.refusals.Refusal.{Refusal}
@@ -18,6 +19,7 @@ use Rattle.desk_base.specs.declared.asked.answers.Reply.TheVariants as reply
 use Rattle.desk_json.specs.Values.{whole_number, number_or_null}
 use Rattle.desk_json.specs.Pages.{row_data, next_data}
 use Rattle.desk_json.specs.Receipts.{receipt_data}
+use Rattle.desk_json.specs.Journals.{summary_data}
 use Rattle.desk_json.specs.Refusals.{shown_data, refusal_data}
 use Rattle.desk_json.specs.Answers.{outcome_data, answer_data}
 
@@ -37,6 +39,10 @@ next_has_none revision shown_rows None = refl
 numbers_have_none : (numbers : List ℕ) → items_have_float (items_of (map whole_number numbers)) ≡ false
 numbers_have_none [] = refl
 numbers_have_none (n ∷ numbers) = numbers_have_none numbers
+
+summaries_have_none : (summaries : List Summary) → items_have_float (items_of (map summary_data summaries)) ≡ false
+summaries_have_none [] = refl
+summaries_have_none (s ∷ summaries) = summaries_have_none summaries
 
 receipt_has_none : (repeated : Bool) (revision : ℕ) (receipt : Receipt) → has_float (receipt_data repeated revision receipt) ≡ false
 receipt_has_none repeated revision Put = refl
@@ -69,6 +75,7 @@ refusal_has_none revision (refusal.Conflict clash) = rw (shown_has_none clash.sh
 outcome_has_none : (revision : ℕ) (it : Outcome) → has_float (outcome_data revision it) ≡ false
 outcome_has_none revision (outcome.Done (reply.Change receipt)) = receipt_has_none false revision receipt
 outcome_has_none revision (outcome.Done (reply.Rows page)) = rw (next_has_none revision page.shown page.next, rows_have_none page.rows) refl
+outcome_has_none revision (outcome.Done (reply.Journal summaries)) = rw (summaries_have_none summaries) refl
 outcome_has_none revision (outcome.Done reply.Revision) = refl
 outcome_has_none revision (outcome.Repeated receipt) = receipt_has_none true revision receipt
 outcome_has_none revision (outcome.Refused why) = refusal_has_none revision why

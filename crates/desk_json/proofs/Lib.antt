@@ -11,5 +11,9 @@ mod PageTexts
 mod MomentReadings
 mod EachRead
 mod NamesAmong
+mod NamesBehind
+mod TableRows
+mod DayReadings
+mod TreeSteps
 mod ParsedBodies
 pub mod AskedForms

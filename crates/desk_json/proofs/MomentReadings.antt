@@ -11,13 +11,13 @@ use Rattle.desk_json.specs.MomentReading.{two_at, four_at, minute_named, is_text
 
 -- ---- the minute that the digits give
 
-of_two : (n : ℕ) → (48 + n / 10 - 48) * 10 + (48 + n % 10 - 48) ≡ n
+pub of_two : (n : ℕ) → (48 + n / 10 - 48) * 10 + (48 + n % 10 - 48) ≡ n
 of_two n = omega arith
 
 abbrev written : ℕ → ℕ → ℕ → ℕ → ℕ → List ℕ
 written year month day hour minute = written_date year month day ++ codes "T" ++ written_time hour minute ++ codes "Z"
 
-of_four : (n : ℕ) → ((48 + n / 100 / 10 - 48) * 10 + (48 + n / 100 % 10 - 48)) * 100 + ((48 + n % 100 / 10 - 48) * 10 + (48 + n % 100 % 10 - 48)) ≡ n
+pub of_four : (n : ℕ) → ((48 + n / 100 / 10 - 48) * 10 + (48 + n / 100 % 10 - 48)) * 100 + ((48 + n % 100 / 10 - 48) * 10 + (48 + n % 100 % 10 - 48)) ≡ n
 of_four n = rw (of_two (n / 100), of_two (n % 100)) (omega arith)
 
 minute_of_digits : (year month day hour minute : ℕ) → minute_named (written year month day hour minute) ≡ day_number year month day * minutes_a_day + (hour * 60 + minute)
@@ -49,11 +49,15 @@ named_is text m h =
 
 -- ---- the test of its text
 
-both_true : (a b c : Bool) → (a && b && c) ≡ true → (a ≡ true) × (b ≡ true) × (c ≡ true)
+pub both_true : (a b c : Bool) → (a && b && c) ≡ true → (a ≡ true) × (b ≡ true) × (c ≡ true)
 both_true true true true e = (refl, refl, refl)
 both_true true true false e = absurd (true≢false (sym e))
 both_true true false c e = absurd (true≢false (sym e))
 both_true false b c e = absurd (true≢false (sym e))
+
+pub none_named : (b : Bool) (n : ℕ) → ¬ (b ≡ true) → None ≡ (if b then Some n else None)
+none_named true n differs = absurd (differs refl)
+none_named false n _ = refl
 
 module _ (reads : (m : ℕ) → IsMoment m → IsMomentText (moment_text m) m) (only : (text : List ℕ) (m : ℕ) → IsMomentText text m → text ≡ moment_text m) where
   is_text : (text : List ℕ) (m : ℕ) → is_text_of text m ≡ true → IsMomentText text m
@@ -68,10 +72,6 @@ module _ (reads : (m : ℕ) → IsMoment m → IsMomentText (moment_text m) m) (
       let low : nat_le first_minute m ≡ true = (let le : first_minute ≤ m = h.in_horizon.0 in grind (arith, nat_tests)) in
       let high : nat_le m end_of_minutes ≡ true = (let le : m ≤ end_of_minutes = h.in_horizon.1 in grind (arith, nat_tests)) in
       rw (low, high, same) refl
-
-  none_named : (b : Bool) (n : ℕ) → ¬ (b ≡ true) → None ≡ (if b then Some n else None)
-  none_named true n differs = absurd (differs refl)
-  none_named false n _ = refl
 
   pub is_moment_of : (text : List ℕ) (r : Option ℕ) → Reads (IsMomentText text) r → r ≡ moment_of text
   unfolding moment_of

@@ -10,6 +10,7 @@ use Rattle.desk_base.specs.declared.asked.answers.Reply.TheVariants as reply
 use Rattle.desk_json.specs.Values.{whole_number}
 use Rattle.desk_json.specs.Pages.{page_data}
 use Rattle.desk_json.specs.Receipts.{receipt_data}
+use Rattle.desk_json.specs.Journals.{journal_data}
 use Rattle.desk_json.specs.Refusals.{refusal_data}
 
 -- the revision alone
@@ -20,6 +21,7 @@ revision_data revision = object (member (codes "revision") (whole_number revisio
 abbrev pub reply_data : ℕ → Reply → Data
 reply_data revision (reply.Change receipt) = receipt_data false revision receipt
 reply_data revision (reply.Rows page) = page_data revision page
+reply_data revision (reply.Journal summaries) = journal_data revision summaries
 reply_data revision reply.Revision = revision_data revision
 
 -- an object with an error's name alone

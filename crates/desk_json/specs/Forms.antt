@@ -1,13 +1,16 @@
 -- Forms: the fields of an object, in the order in which they are read and faults are found, and what they are read as.
-use Rattle.std.specs.Prelude.{ℕ, Bool, true, ◌&&◌, List, [], ◌∷◌, ◌++◌, bytes_eq, Option, Some, None, Result, Ok}
+use Rattle.std.specs.Prelude.{ℕ, Bool, true, ◌&&◌, List, [], ◌∷◌, ◌++◌, map, bytes_eq, Option, Some, None, Result, Ok, ⊤}
 use Rattle.std.specs.List.{list_any}
 use Rattle.serde_json.specs.Data.{Data, null, boolean, number, string, array, object, Members, no_members, member}
 use Rattle.serde_json.specs.Find.{get}
 use Rattle.desk_base.specs.declared.asked.rules.Field.{Field}
+use Rattle.desk_json.specs.declared.fields.Names.{Names}
 use Rattle.desk_json.specs.declared.faults.BodyError.{BodyError}
 use Rattle.desk_json.specs.declared.faults.BodyRule.TheVariants.{Missing}
 use Rattle.desk_json.specs.Faults.{fault, ◌>>=◌}
 use Rattle.desk_json.specs.Words.{field_name}
+
+-- ---- values under names
 
 -- what is found, or the field is missing
 abbrev pub found : {X : Type 0} → Field → (Field → Data → Result X BodyError) → Option Data → Result X BodyError
@@ -31,24 +34,44 @@ under_or absent name field read d = found_or absent field read (get name d)
 abbrev pub at : {X : Type 0} → Field → (Field → Data → Result X BodyError) → Data → Result X BodyError
 at field read d = under (field_name field) field read d
 
+-- ---- forms
+
 -- a form of an object
 pub record Form (X : Type 0) : Type 0 where
-  -- its fields, in order
-  pub fields : List Field
+  -- the names of its fields, in order
+  pub names : List (List ℕ)
   -- what an object is read as, or its first fault; other names are let pass
   pub read : Data → Result X BodyError
 
+-- no field
+abbrev pub nothing : Form ⊤
+nothing = record { names = []; read = λ d. Ok tt }
+
+-- one name, where a fault of what stands under it names a field
+abbrev pub part : {X : Type 0} → List ℕ → Field → (Field → Data → Result X BodyError) → Form X
+part name field read = record { names = name ∷ []; read = under name field read }
+
+-- one name that may be absent
+abbrev pub part_or : {X : Type 0} → X → List ℕ → Field → (Field → Data → Result X BodyError) → Form X
+part_or absent name field read = record { names = name ∷ []; read = under_or absent name field read }
+
 -- one field
 abbrev pub one : {X : Type 0} → Field → (Field → Data → Result X BodyError) → Form X
-one field read = record { fields = field ∷ []; read = at field read }
+one field read = part (field_name field) field read
 
 -- the fields of two forms, one after the other
 abbrev pub both : {X Y : Type 0} → Form X → Form Y → Form (X × Y)
-both f g = record { fields = f.fields ++ g.fields; read = λ d. f.read d >>= λ x. g.read d >>= λ y. Ok (x, y) }
+both f g = record { names = f.names ++ g.names; read = λ d. f.read d >>= λ x. g.read d >>= λ y. Ok (x, y) }
+
+-- the fields of three forms, one after the other
+abbrev pub three : {X Y Z : Type 0} → Form X → Form Y → Form Z → Form (X × Y × Z)
+three f g h = record { names = f.names ++ g.names ++ h.names; read = λ d. f.read d >>= λ x. g.read d >>= λ y. h.read d >>= λ z. Ok (x, y, z) }
 
 -- what is made of the fields of a form
 abbrev pub made : {X Y : Type 0} → (X → Y) → Form X → Form Y
-made make f = record { fields = f.fields; read = λ d. f.read d >>= λ x. Ok (make x) }
+made make f = record { names = f.names; read = λ d. f.read d >>= λ x. Ok (make x) }
+
+-- ---- other names
 
 -- the name is one of the list
 abbrev pub is_among : List (List ℕ) → List ℕ → Bool
@@ -67,3 +90,7 @@ has_only names (boolean b) = true
 has_only names (number n) = true
 has_only names (string s) = true
 has_only names (array ds) = true
+
+-- names of a form, which stand in three lists: those of every body, those of the key, and the others
+abbrev pub all_names : Names → List (List ℕ)
+all_names names = map (λ known. known.now) names.head.now ++ map (λ known. known.now) names.key.now ++ map (λ known. known.now) names.others.now

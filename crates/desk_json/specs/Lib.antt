@@ -7,6 +7,7 @@ pub mod CursorReading
 pub mod Pages
 pub mod Receipts
 pub mod Refusals
+pub mod Journals
 pub mod Answers
 pub mod AnsweredPages
 pub mod Faults
@@ -15,6 +16,6 @@ pub mod Reading
 pub mod Lists
 pub mod Forms
 pub mod TreeReading
-pub mod RowForms
+pub mod Tables
 pub mod Bodies
 pub mod Asked

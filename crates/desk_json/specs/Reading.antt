@@ -1,5 +1,5 @@
 -- What the values of a body are read as.
-use Rattle.std.specs.Prelude.{ℕ, ◌&&◌, nat_le, List, [], ◌∷◌, bytes_eq, codes, Option, Some, None, Result, Ok, is_some, if◌then◌else◌}
+use Rattle.std.specs.Prelude.{ℕ, ℤ, pos, neg_ℤ, int_le, ◌&&◌, nat_le, List, [], ◌∷◌, bytes_eq, codes, Option, Some, None, Result, Ok, is_some, if◌then◌else◌}
 use Rattle.serde_json.specs.Data.{Data, Num, unsigned, negative, float}
 use Rattle.serde_json.specs.Find.{as_null, as_number, as_str}
 use Rattle.desk_base.specs.rules.Limits.{id_limit, serial_limit}
@@ -9,7 +9,7 @@ use Rattle.desk_base.specs.declared.rows.resources.Kind.TheVariants as kind
 use Rattle.desk_json.specs.declared.faults.BodyError.{BodyError}
 use Rattle.desk_json.specs.declared.faults.BodyRule.TheVariants.{Sort, Range, Moment}
 use Rattle.desk_json.specs.Faults.{fault, ◌>>=◌}
-use Rattle.desk_json.specs.MomentReading.{moment_of}
+use Rattle.desk_json.specs.MomentReading.{moment_of, day_of}
 
 -- ---- whole numbers
 
@@ -33,6 +33,21 @@ whole_of greatest field None = fault Sort field
 -- the same of a value
 unfoldable pub whole_in : ℕ → Field → Data → Result ℕ BodyError
 whole_in greatest field d = whole_of greatest field (as_number d)
+
+-- a whole number that 32 bits with a sign hold
+abbrev pub within_i32 : Field → ℤ → Result ℤ BodyError
+within_i32 field z = if int_le (neg_ℤ (pos 2147483648)) z && int_le z (pos 2147483647) then Ok z else fault Range field
+
+-- a whole number with a sign
+abbrev pub signed_of : Field → Option Num → Result ℤ BodyError
+signed_of field (Some (unsigned n)) = within_i32 field (pos n)
+signed_of field (Some (negative z)) = within_i32 field z
+signed_of field (Some (float x)) = fault Sort field
+signed_of field None = fault Sort field
+
+-- the same of a value
+unfoldable pub i32_in : Field → Data → Result ℤ BodyError
+i32_in field d = signed_of field (as_number d)
 
 -- a number from 1 up to a limit
 abbrev pub from_one : ℕ → Field → ℕ → Result ℕ BodyError
@@ -74,20 +89,24 @@ or_fault otherwise None = otherwise
 unfoldable pub moment_in : Field → Data → Result ℕ BodyError
 moment_in field d = text_in field d >>= λ text. or_fault (fault Moment field) (moment_of text)
 
+-- the day that a text is
+unfoldable pub day_in : Field → Data → Result ℕ BodyError
+day_in field d = text_in field d >>= λ text. or_fault (fault Moment field) (day_of text)
+
 -- what has this name in a table of names
 abbrev pub named : {X : Type 0} → List (List ℕ × X) → List ℕ → Option X
 named [] text = None
 named (entry ∷ entries) text = if bytes_eq text entry.0 then Some entry.1 else named entries text
 
--- the names of the plain kinds; crews and pools are not read by now
-abbrev pub plain_kinds : List (List ℕ × Kind)
-plain_kinds =
+-- the names of the kinds
+abbrev pub kinds : List (List ℕ × Kind)
+kinds =
     (codes "generic", kind.Generic) ∷ (codes "contact", kind.Contact) ∷ (codes "user", kind.User) ∷ (codes "equipment", kind.Equipment)
-    ∷ (codes "account", kind.Account) ∷ (codes "facility", kind.Facility) ∷ []
+    ∷ (codes "account", kind.Account) ∷ (codes "facility", kind.Facility) ∷ (codes "crew", kind.Crew) ∷ (codes "pool", kind.Pool) ∷ []
 
 -- the kind of a name
 unfoldable pub kind_named : List ℕ → Option Kind
-kind_named text = named plain_kinds text
+kind_named text = named kinds text
 
 -- a kind is its name in small letters
 unfoldable pub kind_in : Field → Data → Result Kind BodyError

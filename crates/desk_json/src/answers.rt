@@ -5,6 +5,7 @@ ghost use Rattle.desk_base.specs.declared.asked.answers.Outcome.TheVariants.{Don
 ghost use Rattle.desk_json.specs.AnsweredPages.{ShowsPlaces};
 ghost use Rattle.desk_json.specs.Answers.{revision_data, reply_data, error_data, answer_data, answer_text};
 
+use crate::journals::journal_value;
 use crate::pages::page_value;
 use crate::receipts::receipt_value;
 use crate::refusals::refusal_value;
@@ -31,6 +32,7 @@ fn reply_value(alloc: Global, revision: u64, reply: &Reply) -> Result<Value, NoM
     match reply {
         Reply::Change(receipt) => Ok(receipt_value(alloc, false, revision, receipt)?),
         Reply::Rows(page) => page_value(alloc, revision, page),
+        Reply::Journal(summaries) => Ok(journal_value(alloc, revision, summaries.as_slice())?),
         Reply::Revision => Ok(revision_value(alloc, revision)?),
     }
 }

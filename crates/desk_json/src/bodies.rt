@@ -2,37 +2,23 @@
 ghost use Rattle.std.specs.Prelude.{◌≡◌, ◌⊎◌, Ok, Err, IfOk, IfErr};
 ghost use Rattle.serde_json.specs.View.{view};
 ghost use Rattle.desk_json.specs.Faults.{IsRead};
-ghost use Rattle.desk_json.specs.Forms.{at};
-ghost use Rattle.desk_json.specs.Reading.{serial_in};
 ghost use Rattle.desk_json.specs.Asked.{IsAsked};
 ghost use Rattle.desk_json.specs.Bodies.{head_form, change_in, parsed, Reads};
 
-use crate::acts::{ActName, act_name_at, read_act};
+use crate::acts::read_act;
 use crate::faults::{BodyError, BodyRule};
-use crate::fields::{id_at, missing};
-use crate::reading::read_serial;
-use crate::words::field_name;
-use desk_base::{Call, CallNumber, Command, Field};
+use crate::fields::value_at;
+use desk_base::{ActCode, Call, Command, Field};
 use serde_json::Value;
 use std::alloc::Global;
 
-#[tactic(auto, unfolding(crate::specs::Forms::under))]
-fn number_at(object: &Value, field: Field) -> Result<CallNumber, BodyError>
-    ensures { result ≡ at field serial_in (view object.now) }
-{
-    match object.get(field_name(field)) {
-        Some(value) => read_serial(value, field),
-        None => Err(missing(field)),
-    }
-}
-
 #[tactic(auto, unfolding(crate::specs::Bodies::head_form))]
-fn read_head(body: &Value) -> Result<(ActName, Call), BodyError>
+fn read_head(body: &Value) -> Result<(ActCode, Call), BodyError>
     ensures { result ≡ head_form.read (view body.now) }
 {
-    let name = act_name_at(body, Field::Act)?;
-    let caller = id_at(body, Field::Caller)?;
-    let number = number_at(body, Field::Number)?;
+    let name = value_at(body, Field::Act)?;
+    let caller = value_at(body, Field::Caller)?;
+    let number = value_at(body, Field::Number)?;
     Ok((name, Call { caller, number }))
 }
 
@@ -67,9 +53,9 @@ fn parse(alloc: Global, body: &[u8]) -> Result<Value, BodyError>
 /// The change that a body asks for, or the first fault of the body.
 ///
 /// Fields are judged in the order act, caller, number, and then as they stand in the form of the act; a field that the act does
-/// not have comes last. By now the acts are put_zone (with one shift, by 0 minutes), put_calendar, put_work, put_unit, put_site,
-/// put_resource (of a plain kind), put_group (of one leaf with a duration, an offset or none, and an effort), book_group and
-/// cancel_group. Other acts, shifts, kinds and trees break the rule `Range`, other fields of a leaf the rule `Unknown`.
+/// not have comes last. A fault inside a tree names the tree: a node's own faults come before those of its children or of its
+/// leaf's fields, in preorder. A pair of another length than two is of another kind (`Sort`), and a fraction, an exponent, `-0` and
+/// a whole number that 64 bits do not hold are no whole numbers. The ranges of rows are judged with the change, not here.
 pub fn read_change(alloc: Global, body: &[u8]) -> Result<Command, BodyError>
     ensures change { Reads body.now result }
     ensures form { IfOk result (λ command. IsAsked command) }

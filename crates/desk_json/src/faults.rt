@@ -13,9 +13,9 @@ pub enum BodyRule {
     Missing,
     /// The field has another kind of value. It is printed `type`.
     Sort,
-    /// A whole number that its type does not hold, or a name that is none of the list. What is not served by now breaks it too.
+    /// A whole number that its type does not hold, or a name that is none of the list.
     Range,
-    /// A text that is no moment.
+    /// A text that is no moment, or no date.
     Moment,
     /// The act has no such field.
     Unknown,

@@ -28,7 +28,8 @@ pub fn texts_have_one_page()
     ensures { (r s : ℕ) (p q : Page) → IsAnswered r p → IsAnswered s q → compact_text (page_data r p) ≡ compact_text (page_data s q) → (r ≡ s) × (told p ≡ told q) }
 {}
 
-/// What a body asks for is of the listed forms.
+/// What a body asks for is of the listed forms: a row that is put or removed one by one is of a table up to memberships, and has a
+/// rating for a characteristic alone.
 pub fn changes_are_of_listed_forms()
     ensures { (d : Data) (c : Command) → change_in d ≡ Ok c → IsAsked c }
 {}

@@ -1,33 +1,89 @@
-//! Lists of a body: the shifts of a zone, and picks.
-ghost use Rattle.std.specs.Prelude.{◌≡◌};
+//! Lists of a body, and pairs.
+ghost use Rattle.std.specs.Prelude.{◌≡◌, []};
 ghost use Rattle.serde_json.specs.View.{view, items_view};
 ghost use Rattle.desk_json.specs.Faults.{IsRead};
-ghost use Rattle.desk_json.specs.Reading.{id_or_null_in};
-ghost use Rattle.desk_json.specs.Forms.{at};
-ghost use Rattle.desk_json.specs.Lists.{each_in, picks_in, shift_parts, shift_in, lone_shift_in, shifts_in};
+ghost use Rattle.desk_json.specs.Forms.{at, under_or};
+ghost use Rattle.desk_json.specs.Lists.{each_in, list_in, pair_in};
 
 use crate::faults::{BodyError, BodyRule};
 use crate::fields::missing;
-use crate::reading::{read_id_or_null, read_moment_text, read_whole};
+use crate::reading::Read;
 use crate::words::field_name;
-use desk_base::{Field, Items, Picks, Shifts};
+use desk_base::{CharacteristicId, Field, Items, Minute, Window};
 use serde_json::Value;
 use std::alloc::Global;
 
-fn read_each(alloc: Global, values: &[Value], field: Field) -> Result<Picks, BodyError>
-    ensures { IsRead (each_in (id_or_null_in field) (items_view values.now)) result }
+#[tactic(auto, unfolding(crate::specs::Lists::pair_in))]
+fn read_pair<A: Read + Drop, B: Read + Drop>(
+    value: &Value,
+    field: Field,
+) -> Result<(A, B), BodyError>
+    ensures { result ≡ pair_in A.meant B.meant field (view value.now) }
 {
-    let mut picks = Items::new(alloc);
-    for value in values {
-        let pick = read_id_or_null(value, field)?;
-        picks.push(pick)?;
+    match (value.get(0), value.get(1), value.get(2)) {
+        (Some(first), Some(second), None) => {
+            let first = A::read(first, field)?;
+            let second = B::read(second, field)?;
+            Ok((first, second))
+        }
+        _ => Err(BodyError::Bad(BodyRule::Sort, field)),
     }
-    Ok(picks)
 }
 
-#[tactic(auto, unfolding(crate::specs::Lists::picks_in))]
-fn read_picks(alloc: Global, value: &Value, field: Field) -> Result<Picks, BodyError>
-    ensures { IsRead (picks_in field (view value.now)) result }
+impl Read for (u32, i32) {
+    ghost use Rattle.desk_json.specs.Lists.{shift_in};
+
+    ghost meant = { shift_in };
+
+    fn read(value: &Value, field: Field) -> Result<(u32, i32), BodyError> {
+        let (from, ahead) = read_pair::<Minute, i32>(value, field)?;
+        Ok((from.get(), ahead))
+    }
+}
+
+impl Read for (CharacteristicId, u8) {
+    ghost use Rattle.desk_json.specs.Lists.{rating_in};
+
+    ghost meant = { rating_in };
+
+    fn read(value: &Value, field: Field) -> Result<(CharacteristicId, u8), BodyError> {
+        read_pair(value, field)
+    }
+}
+
+impl Read for Window {
+    ghost use Rattle.desk_json.specs.Lists.{window_in};
+
+    ghost meant = { window_in };
+
+    fn read(value: &Value, field: Field) -> Result<Window, BodyError> {
+        let (from, to) = read_pair(value, field)?;
+        Ok(Window { from, to })
+    }
+}
+
+fn read_each<T: Read + Drop>(
+    alloc: Global,
+    values: &[Value],
+    field: Field,
+) -> Result<Items<T>, BodyError>
+    ensures { IsRead (each_in (T.meant field) (items_view values.now)) result }
+{
+    let mut items = Items::new(alloc);
+    for value in values {
+        let item = T::read(value, field)?;
+        items.push(item)?;
+    }
+    Ok(items)
+}
+
+#[tactic(auto, unfolding(crate::specs::Lists::list_in))]
+fn read_list<T: Read + Drop>(
+    alloc: Global,
+    value: &Value,
+    field: Field,
+) -> Result<Items<T>, BodyError>
+    ensures { IsRead (list_in T.meant field (view value.now)) result }
 {
     match value.as_array() {
         Some(values) => read_each(alloc, values.as_slice(), field),
@@ -35,62 +91,33 @@ fn read_picks(alloc: Global, value: &Value, field: Field) -> Result<Picks, BodyE
     }
 }
 
-fn read_parts(from: &Value, ahead: &Value, field: Field) -> Result<(u32, i32), BodyError>
-    ensures { result ≡ shift_parts field (view from.now) (view ahead.now) }
-{
-    let from = read_moment_text(from, field)?;
-    let ahead = read_whole(ahead, field, 0)?;
-    Ok((from.get(), ahead as i32))
-}
-
-#[tactic(auto, unfolding(crate::specs::Lists::shift_in))]
-fn read_shift(value: &Value, field: Field) -> Result<(u32, i32), BodyError>
-    ensures { result ≡ shift_in field (view value.now) }
-{
-    match (value.get(0), value.get(1), value.get(2)) {
-        (Some(from), Some(ahead), None) => read_parts(from, ahead, field),
-        _ => Err(BodyError::Bad(BodyRule::Sort, field)),
-    }
-}
-
-fn lone_shift(alloc: Global, shift: &Value, field: Field) -> Result<Shifts, BodyError>
-    ensures { IsRead (lone_shift_in field (view shift.now)) result }
-{
-    let shift = read_shift(shift, field)?;
-    Ok(Items::from_slice(alloc, &[shift])?)
-}
-
-#[tactic(auto, unfolding(crate::specs::Lists::shifts_in))]
-fn read_shifts(alloc: Global, value: &Value, field: Field) -> Result<Shifts, BodyError>
-    ensures { IsRead (shifts_in field (view value.now)) result }
-{
-    if !value.is_array() {
-        return Err(BodyError::Bad(BodyRule::Sort, field));
-    }
-    match (value.get(0), value.get(1)) {
-        (Some(shift), None) => lone_shift(alloc, shift, field),
-        _ => Err(BodyError::Bad(BodyRule::Range, field)),
-    }
-}
-
-/// Picks in a field: a number or null for each leaf.
+/// A list in a field.
 #[tactic(auto, unfolding(crate::specs::Forms::under))]
-pub(crate) fn picks_at(alloc: Global, object: &Value, field: Field) -> Result<Picks, BodyError>
-    ensures { IsRead (at field picks_in (view object.now)) result }
+pub(crate) fn list_at<T: Read + Drop>(
+    alloc: Global,
+    object: &Value,
+    field: Field,
+) -> Result<Items<T>, BodyError>
+    ensures { IsRead (at field (list_in T.meant) (view object.now)) result }
 {
     match object.get(field_name(field)) {
-        Some(value) => read_picks(alloc, value, field),
+        Some(value) => read_list(alloc, value, field),
         None => Err(missing(field)),
     }
 }
 
-/// The shifts of a zone in a field: by now one shift, by 0 minutes.
-#[tactic(auto, unfolding(crate::specs::Forms::under))]
-pub(crate) fn shifts_at(alloc: Global, object: &Value, field: Field) -> Result<Shifts, BodyError>
-    ensures { IsRead (at field shifts_in (view object.now)) result }
+/// A list under a name, or an empty one where nothing stands under it.
+#[tactic(auto, unfolding(crate::specs::Forms::under_or))]
+pub(crate) fn list_under<T: Read + Drop>(
+    alloc: Global,
+    object: &Value,
+    name: &str,
+    field: Field,
+) -> Result<Items<T>, BodyError>
+    ensures { IsRead (under_or [] name.now field (list_in T.meant) (view object.now)) result }
 {
-    match object.get(field_name(field)) {
-        Some(value) => read_shifts(alloc, value, field),
-        None => Err(missing(field)),
+    match object.get(name) {
+        Some(value) => read_list(alloc, value, field),
+        None => Ok(Items::new(alloc)),
     }
 }
