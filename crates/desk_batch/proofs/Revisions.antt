@@ -35,6 +35,7 @@ StaysOrRises t u = (u ≡ t) ⊎ (u.revision ≡ t.revision + 1)
 judged : (t : Tables) (journal : List Entry) (pass : ℕ) (call : Call) (a : Act) (out : Outcome) (u : Tables) (journal' : List Entry) → IsJudged t journal pass call a out u journal' → StaysOrRises t u
 judged t journal pass call a (Done (reply.Change receipt)) u journal' x = inr (ap (λ v. v.revision) x.2.0 ∙ after_act-revision t call a)
 judged t journal pass call a (Done (reply.Rows page)) u journal' x = absurd x
+judged t journal pass call a (Done (reply.Journal summaries)) u journal' x = absurd x
 judged t journal pass call a (Done reply.Revision) u journal' x = absurd x
 judged t journal pass call a (Repeated receipt) u journal' x = absurd x
 judged t journal pass call a (Refused why) u journal' x = inl x.1.0

@@ -1,41 +1,41 @@
 -- What a request asks for is served by the step.
-use Rattle.std.proofs.Common.{◌≡◌, ℕ, List, Result, Ok, Err, inl, inr, refl, sym, subst}
+use Rattle.std.proofs.Common.{◌≡◌, ◌≤◌, true, ℕ, List, Result, Ok, Err, inl, inr, refl, sym, subst, arith}
 use Rattle.serde_json.specs.Data.{Data}
 use Rattle.desk_base.specs.declared.rows.tables.AnyRow.{AnyRow}
-use Rattle.desk_base.specs.declared.rows.tables.AnyRow.TheVariants.{Zone, Calendar, Work, Unit, Site, Resource}
+use Rattle.desk_base.specs.declared.rows.tables.AnyRow.TheVariants.{Group, Booking, Caller}
+use Rattle.desk_base.specs.declared.rows.tables.Table.{Table}
+use Rattle.desk_base.specs.declared.rows.tables.Table.TheVariants.{Group as GroupTable, Booking as BookingTable, Caller as CallerTable, BookingNumbers}
+use Rattle.desk_base.specs.rows.Rows.{key_of}
 use Rattle.desk_base.specs.declared.asked.acts.Act.{Act}
-use Rattle.desk_base.specs.declared.asked.acts.Act.TheVariants.{Put, PutGroup, BookGroup, CancelGroup}
+use Rattle.desk_base.specs.declared.asked.acts.Act.TheVariants.{Put, Remove}
 use Rattle.desk_base.specs.declared.asked.answers.Command.{Command}
 use Rattle.desk_base.specs.declared.asked.answers.Command.TheVariants.{Change, Ask}
-use Rattle.desk_core.specs.Built.{CanBePut, IsServed, IsBuilt}
-use Rattle.desk_json.specs.Asked.{IsAskedRow, IsAskedAct, IsAsked as IsListed}
+use Rattle.desk_change.specs.Served.{is_master, IsServed}
+use Rattle.desk_core.specs.Built.{IsBuilt}
+use Rattle.desk_json.specs.Asked.{IsAskedRow, IsAskedTable, IsAskedAct, IsAsked as IsListed}
 use Rattle.desk_json.specs.Bodies.{parsed, change_in}
 use Rattle.desk_json.specs.Faults.{◌>>=◌}
-use Rattle.desk_json.specs.TreeReading.{plain_leaf}
 use Rattle.desk_json.specs.declared.faults.BodyError.{BodyError}
 use Rattle.desk_wire.specs.declared.rules.Request.{Request}
 use Rattle.desk_batch.specs.Requesting.{IsAsked, IsBodyOf}
 
-row_served : (row : AnyRow) → IsAskedRow row → CanBePut row
-row_served (Zone x) is = tt
-row_served (Calendar x) is = tt
-row_served (Work x) is = tt
-row_served (Unit x) is = tt
-row_served (Site x) is = tt
-row_served (Resource x) is = tt
-row_served _ is = absurd is
+row_served : (row : AnyRow) → IsAskedRow row → is_master (key_of row).table ≡ true
+row_served (Group x) is = absurd is
+row_served (Booking x) is = absurd is
+row_served (Caller x) is = absurd is
+row_served row is = refl
+
+table_served : (table : Table) → IsAskedTable table → is_master table ≡ true
+table_served GroupTable is = absurd (omega (arith, is))
+table_served BookingTable is = absurd (omega (arith, is))
+table_served CallerTable is = absurd (omega (arith, is))
+table_served BookingNumbers is = absurd (omega (arith, is))
+table_served table is = refl
 
 act_served : (act : Act) → IsAskedAct act → IsServed act
 act_served (Put row) is = row_served row is
-act_served (PutGroup g) is = record {
-  nodes = is.nodes;
-  leaf = plain_leaf is.duration is.offset is.effort;
-  leaves = is.leaves;
-  plain = record { kinds = refl; roles = refl; characteristics = refl; territories = refl; units = refl; required = refl; restricted = refl; window = refl };
-}
-act_served (BookGroup group start picks) is = tt
-act_served (CancelGroup group) is = tt
-act_served _ is = absurd is
+act_served (Remove key) is = table_served key.table is
+act_served _ is = tt
 
 listed_built : (c : Command) → IsListed c → IsBuilt c
 listed_built (Change call act) is = act_served act is

@@ -84,9 +84,9 @@ per_within None e = tt
 per_within (Some n) e = within_step n (is_within_range 1 page_limit n) (BadField Per) refl e
 
 -- the page of the group that stands there, as it may be asked for
-answer_is : (t : Tables) (g : GroupRow) (group : ℕ) (o : Options) (cursor : Option Cursor) (latest : Bool) (limit : ℕ) (page : Page) → group_of t group ≡ Some g
-    → IsAnswer t (RowsOf group o cursor latest limit) (Done (Rows page)) → IsAskable o limit × IsPage t g o (point_of cursor) limit page
-answer_is t g group o cursor latest limit page there (passes, (h, found, is)) =
+answer_is : (t : Tables) (journal : List Entry) (g : GroupRow) (group : ℕ) (o : Options) (cursor : Option Cursor) (latest : Bool) (limit : ℕ) (page : Page) → group_of t group ≡ Some g
+    → IsAnswer t journal (RowsOf group o cursor latest limit) (Done (Rows page)) → IsAskable o limit × IsPage t g o (point_of cursor) limit page
+answer_is t journal g group o cursor latest limit page there (passes, (h, found, is)) =
     let some : Some h ≡ Some g = sym found ∙ there in
     let same : h ≡ g = cc in
     let counts = first_passes _ _ (first_passes _ _ passes).1 in
@@ -98,7 +98,7 @@ answer_is t g group o cursor latest limit page there (passes, (h, found, is)) =
 turn_is : (t : Tables) (journal : List Entry) (u : Tables) (journal' : List Entry) (g : GroupRow) (group : ℕ) (o : Options) (cursor : Option Cursor) (latest : Bool) (limit : ℕ) (page : Page)
     → IsTurn t journal 0 (Ask (RowsOf group o cursor latest limit)) (Done (Rows page)) u journal' → group_of u group ≡ Some g → IsAskable o limit × IsPage u g o (point_of cursor) limit page
 turn_is t journal u journal' g group o cursor latest limit page (inl step) there =
-    answer_is u g group o cursor latest limit page there (subst (λ v. IsAnswer v (RowsOf group o cursor latest limit) (Done (Rows page))) (sym step.1.0) step.0)
+    answer_is u journal g group o cursor latest limit page there (subst (λ v. IsAnswer v journal (RowsOf group o cursor latest limit) (Done (Rows page))) (sym step.1.0) step.0)
 turn_is t journal u journal' g group o cursor latest limit page (inr none) there = let f : Done (Rows page) ≡ NoMemory = none.0 in absurd (cc)
 
 shown : (s t : BookState) (g : GroupRow) (search : Search) (revision : ℕ) (point : ResumePoint) (page : Page) (x : Taken) → OwnTurn s x.command x.answer t

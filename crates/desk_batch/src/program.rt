@@ -62,7 +62,10 @@ fn open(alloc: Global, store: Store) -> Result<Book, NoMemory>
     ensures { IfOk result (λ book. book ≡ opened_over (tables_of store)) }
 {
     let tables = tables_of(alloc, store)?;
-    Ok(Book::over(alloc, tables))
+    match Book::over(alloc, tables) {
+        Ok(book) => Ok(book),
+        Err(_tables) => Err(NoMemory),
+    }
 }
 
 /// Serves the source as one connection over a book that was just opened.

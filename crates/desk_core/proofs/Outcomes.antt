@@ -16,8 +16,6 @@ use Rattle.desk_base.specs.asked.Acts.{after_act, receipt_of}
 use Rattle.desk_base.specs.asked.Steps.{IsAccepted, IsChanged, IsTurn, kept_receipt, entry_of}
 use Rattle.desk_base.specs.asked.Histories.{IsLegal, after_journal}
 use Rattle.desk_base.proofs.histories.Journals.{legal_entry}
-use Rattle.desk_load.specs.Index.{IsIndexOf}
-use Rattle.desk_load.specs.Parted.{IndexParts}
 use Rattle.desk_core.specs.declared.entering.NotEntered.{NotEntered}
 use Rattle.desk_core.specs.declared.entering.NotEntered.TheVariants.{Refused, NoMemory}
 use Rattle.desk_core.specs.Books.{IsKept}
@@ -26,20 +24,18 @@ use Rattle.desk_core.specs.Entered.{entered_outcome, IsHindrance}
 
 -- ---- a change that is not the caller's last
 
-module _ (opened t : Tables) (index index' : IndexParts) (journal : List Entry) (pass : ℕ) (call : Call) (a : Act) (fresh : kept_receipt t call ≡ None) where
+module _ (opened t : Tables) (journal : List Entry) (pass : ℕ) (call : Call) (a : Act) (fresh : kept_receipt t call ≡ None) where
   -- whatever came of it, the book keeps what it keeps
-  pub kept_by : (r : Result Receipt NotEntered) (t' : Tables) (journal' : List Entry) → IsKept opened t index journal → OnOk r (IsAccepted t journal call a) → IsSound t' → IsIndexOf t' index'
-      → OnOk r (t' ≡ after_act t call a) → OnOk r (journal' ≡ journal ++ entry_of t pass call a ∷ []) → OnErr r (t' ≡ t) → OnErr r (journal' ≡ journal) → IsKept opened t' index' journal'
-  kept_by (Ok receipt) t' journal' kept ok s i h k m n =
+  pub kept_by : (r : Result Receipt NotEntered) (t' : Tables) (journal' : List Entry) → IsKept opened t journal → OnOk r (IsAccepted t journal call a) → IsSound t'
+      → OnOk r (t' ≡ after_act t call a) → OnOk r (journal' ≡ journal ++ entry_of t pass call a ∷ []) → OnErr r (t' ≡ t) → OnErr r (journal' ≡ journal) → IsKept opened t' journal'
+  kept_by (Ok receipt) t' journal' kept ok s h k m n =
       let l = legal_entry opened t journal pass call a kept.after kept.legal fresh ok in record {
         sound = s;
-        indexed = i;
-        legal = subst (IsLegal opened) (sym k) l.1;
+            legal = subst (IsLegal opened) (sym k) l.1;
         after = h ∙ l.0 ∙ ap (after_journal opened) (sym k);
       }
-  kept_by (Err x) t' journal' kept ok s i h k m n = record {
+  kept_by (Err x) t' journal' kept ok s h k m n = record {
     sound = s;
-    indexed = i;
     legal = subst (IsLegal opened) (sym n) kept.legal;
     after = m ∙ kept.after ∙ ap (after_journal opened) (sym n);
   }

@@ -30,13 +30,14 @@ pub struct Book {
 }
 
 impl Model for Book {
+    ghost use Rattle.desk_load.specs.Index.{IsIndexOf};
     ghost use Rattle.desk_core.specs.Books.{BookState, IsKept};
 
     ghost Value = { BookState };
 
     ghost view = { λ b. record { opened = b.opened.value; tables = b.view.tables; journal = b.journal.items } };
 
-    ghost invariant = { λ b. IsKept b.opened.value b.view.tables b.view.index b.journal.items };
+    ghost invariant = { λ b. IsKept b.opened.value b.view.tables b.journal.items × IsIndexOf b.view.tables b.view.index };
 }
 
 impl Book {
