@@ -4,8 +4,6 @@ pub mod Missing
 pub mod Tests
 -- The first that is found in a list is found in its first part, or else behind it.
 pub mod FirstOfAll
--- Nodes of a tree, one by one.
-pub mod Nodes
 -- Rows of tables that share a kind of row.
 pub mod RowLemmas
 -- The first row that passes a test, by its key, and the row at a place.
