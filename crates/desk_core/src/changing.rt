@@ -12,9 +12,9 @@ ghost use Rattle.desk_core.specs.Effects.{IsFeasibleOf, IsKnown, IsPlaced};
 ghost use Rattle.desk_core.specs.Entered.{FitAfter, IsHindrance, IsLateHindrance};
 
 use crate::entering::{NotEntered, enter};
-use crate::stub::early_refusal;
 use crate::view::View;
 use desk_base::{Act, Call, Entry, GroupId, Minute, NoMemory, Receipt, Refusal, ResourceId};
+use desk_change::early_refusal;
 use desk_feasible::place_refusal;
 use std::alloc::Global;
 

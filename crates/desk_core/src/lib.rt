@@ -12,7 +12,6 @@ mod journaled;
 mod judging;
 mod new_bookings;
 mod searching;
-mod stub;
 mod view;
 
 pub use book::Book;

@@ -23,6 +23,7 @@ use Rattle.desk_base.proofs.tables.KeyOrder.{is_key-same, is_key-itself}
 use Rattle.desk_base.proofs.tables.Sounds.{key_table, key_total}
 use Rattle.desk_rules.specs.Broken.{cites_there, IsReady, broken_in}
 use Rattle.desk_rules.proofs.Unordered.{either, less, IsUnordered, none_unordered, least_is_unordered, least_is_least}
+use Rattle.desk_rules.proofs.Missing.{none_missing}
 use Rattle.desk_rules.proofs.Firsts.{got_at, cut_got, none_fails, first_fails}
 
 -- at this key of the table the rule is broken, and at each lesser key of the table it is kept
@@ -87,10 +88,10 @@ there_is t k e =
 
 fails_citation : (t : Tables) (k : Key) (row : AnyRow) → IsIn row (rows_in t k.table) → key_of row ≡ k → cites_there t row ≡ false → Keeps Citation t k → ⊥
 fails_citation t k row i e f keeps =
-    false≢true (sym f ∙ list_all_from (is_there t) (citations_of row) (λ c j. there_from t c (keeps row c (contains_from_in (rows_in t k.table) row i) e (contains_from_in (citations_of row) c j))))
+    false≢true (sym f ∙ none_missing t (citations_of row) ∙ list_all_from (is_there t) (citations_of row) (λ c j. there_from t c (keeps row c (contains_from_in (rows_in t k.table) row i) e (contains_from_in (citations_of row) c j))))
 
 passes_citation : (t : Tables) (row : AnyRow) → cites_there t row ≡ true → (c : Key) → Contains (citations_of row) c → Contains (keys_in t c.table) c
-passes_citation t row e c i = there_is t c (list_all_at (is_there t) (citations_of row) c e (in_from_contains (citations_of row) c i))
+passes_citation t row e c i = there_is t c (list_all_at (is_there t) (citations_of row) c (sym (none_missing t (citations_of row)) ∙ e) (in_from_contains (citations_of row) c i))
 
 -- ---- each rule
 

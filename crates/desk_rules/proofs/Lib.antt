@@ -1,7 +1,9 @@
+-- The first key that is not there, over lists that are joined.
+pub mod Missing
 -- Tests of several parts, over lists.
 pub mod Tests
--- Nodes of a tree, one by one.
-pub mod Nodes
+-- The first that is found in a list is found in its first part, or else behind it.
+pub mod FirstOfAll
 -- Rows of tables that share a kind of row.
 pub mod RowLemmas
 -- The first row that passes a test, by its key, and the row at a place.

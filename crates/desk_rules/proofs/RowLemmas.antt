@@ -1,5 +1,5 @@
 -- Rows of tables that share a kind of row.
-use Rattle.std.proofs.Common.{◌≡◌, Bool, true, ◌&&◌, refl, is_none}
+use Rattle.std.proofs.Common.{◌≡◌, Bool, true, ◌&&◌, None, refl, is_none}
 use Rattle.desk_base.specs.declared.rows.tables.Tables.{Tables}
 use Rattle.desk_base.specs.declared.rows.tables.Table.{Table}
 use Rattle.desk_base.specs.declared.rows.resources.NamedRow.{NamedRow}
@@ -8,7 +8,8 @@ use Rattle.desk_base.specs.rows.Lookups.{named_in}
 use Rattle.desk_base.specs.rules.Fields.{named_rules}
 use Rattle.desk_base.specs.rules.Rules.{first_broken}
 use Rattle.desk_base.specs.rules.Sound.{keeps_fields}
-use Rattle.desk_rules.specs.Broken.{cites_there}
+use Rattle.desk_base.specs.rows.Rows.{citations_of}
+use Rattle.desk_rules.specs.Missing.{missing}
 
 and_true : (b : Bool) → b ≡ (b && true)
 and_true true = refl
@@ -23,9 +24,9 @@ named_keeps t Territory x = and_true (is_none (first_broken (named_rules x)))
 named_keeps t _ x = and_true (is_none (first_broken (named_rules x)))
 
 -- it names no row
-pub named_cites : (t : Tables) (table : Table) (x : NamedRow) → true ≡ cites_there t (named_in table x)
-named_cites t Site x = refl
-named_cites t Role x = refl
-named_cites t Characteristic x = refl
-named_cites t Territory x = refl
-named_cites t _ x = refl
+pub named_missing : (t : Tables) (table : Table) (x : NamedRow) → None ≡ missing t (citations_of (named_in table x))
+named_missing t Site x = refl
+named_missing t Role x = refl
+named_missing t Characteristic x = refl
+named_missing t Territory x = refl
+named_missing t _ x = refl

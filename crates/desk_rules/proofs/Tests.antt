@@ -1,10 +1,11 @@
 -- Tests of several parts, over lists.
-use Rattle.std.proofs.Common.{◌≡◌, Bool, true, false, cond, ◌&&◌, ◌||◌, List, [], ◌∷◌, ◌++◌, Some, refl, sym, ap, ◌∙◌, is_none}
-use Rattle.std.proofs.lemmas.List.Folds.{list_all-append}
-use Rattle.std.specs.Prelude.{filter, flat_map}
-use Rattle.std.specs.List.{list_all, list_any}
+use Rattle.std.proofs.Common.{◌≡◌, Bool, true, false, cond, ◌&&◌, ◌||◌, List, [], ◌∷◌, ◌++◌, Some, refl, ap, ◌∙◌, is_none}
+use Rattle.std.specs.Prelude.{filter, Option, None}
+use Rattle.std.specs.List.{list_any}
+use Rattle.std.specs.Option.{option_or}
+use Rattle.desk_base.specs.declared.asked.rules.Field.{Field}
 use Rattle.desk_base.specs.declared.rows.groups.Leaf.{Leaf}
-use Rattle.desk_base.specs.rules.Fields.{Rules, join_rules, leaf_rules}
+use Rattle.desk_base.specs.rules.Fields.{Rules, leaf_rules}
 use Rattle.desk_base.specs.rules.Rules.{first_broken}
 use Rattle.desk_rules.specs.Leaves.{number_rules, list_rules, last_rules}
 
@@ -28,24 +29,22 @@ any_within_three p q r s (x ∷ xs) = step (p x) (any_within_three p q r s xs)
     step true e = ap (λ c. (q x && r x && s x) || c) e
     step false e = e
 
--- ---- lists that are joined
+-- ---- rules that are joined
 
-pub all_flat : {A B : Type 0} (p : B → Bool) (f : A → List B) (xs : List A) → list_all (λ x. list_all p (f x)) xs ≡ list_all p (flat_map f xs)
-all_flat p f [] = refl
-all_flat p f (x ∷ xs) = ap (λ b. list_all p (f x) && b) (all_flat p f xs) ∙ sym (list_all-append p (f x) (flat_map f xs))
-
-broken-append : (xs ys : Rules) → is_none (first_broken (xs ++ ys)) ≡ (is_none (first_broken xs) && is_none (first_broken ys))
-broken-append [] ys = refl
-broken-append (x ∷ xs) ys = step x.0 (broken-append xs ys)
+-- the first broken rule is one of the first rules, or else one of those behind them
+pub broken_append : (xs ys : Rules) → first_broken (xs ++ ys) ≡ option_or (first_broken xs) (first_broken ys)
+broken_append [] ys = refl
+broken_append (x ∷ xs) ys = step x.0 (broken_append xs ys)
   where
-    step : (b : Bool) → is_none (first_broken (xs ++ ys)) ≡ (is_none (first_broken xs) && is_none (first_broken ys)) → is_none (cond b (first_broken (xs ++ ys)) (Some x.1)) ≡ (is_none (cond b (first_broken xs) (Some x.1)) && is_none (first_broken ys))
+    step : (b : Bool) → first_broken (xs ++ ys) ≡ option_or (first_broken xs) (first_broken ys) → cond b (first_broken (xs ++ ys)) (Some x.1) ≡ option_or (cond b (first_broken xs) (Some x.1)) (first_broken ys)
     step true e = e
     step false e = refl
 
-pub all_joined : {A : Type 0} (f : A → Rules) (xs : List A) → list_all (λ x. is_none (first_broken (f x))) xs ≡ is_none (first_broken (join_rules f xs))
-all_joined f [] = refl
-all_joined f (x ∷ xs) = ap (λ b. is_none (first_broken (f x)) && b) (all_joined f xs) ∙ sym (broken-append (f x) (join_rules f xs))
-
 -- the rules of a leaf, in three parts
-pub leaf_parts : (l : Leaf) → is_none (first_broken (leaf_rules l)) ≡ (is_none (first_broken (number_rules l)) && (is_none (first_broken (list_rules l)) && is_none (first_broken (last_rules l))))
-leaf_parts l = broken-append (number_rules l) (list_rules l ++ last_rules l) ∙ ap (λ b. is_none (first_broken (number_rules l)) && b) (broken-append (list_rules l) (last_rules l))
+pub leaf_parts : (l : Leaf) → first_broken (leaf_rules l) ≡ option_or (first_broken (number_rules l)) (option_or (first_broken (list_rules l)) (first_broken (last_rules l)))
+leaf_parts l = broken_append (number_rules l) (list_rules l ++ last_rules l) ∙ ap (option_or (first_broken (number_rules l))) (broken_append (list_rules l) (last_rules l))
+
+-- a row that breaks no rule of its fields, where it is no tree
+pub no_tree : (o : Option Field) → is_none o ≡ (is_none o && true)
+no_tree None = refl
+no_tree (Some field) = refl

@@ -1,6 +1,6 @@
 -- Where a rule is broken in a table.
-use Rattle.std.specs.Prelude.{⊤, Bool, true, not, List, [], ◌∷◌, map, find, Option, Some, None, option_map, if◌then◌else◌}
-use Rattle.std.specs.List.{list_all, slice_get}
+use Rattle.std.specs.Prelude.{⊤, Bool, true, not, List, [], ◌∷◌, map, find, Option, Some, None, option_map, is_none, if◌then◌else◌}
+use Rattle.std.specs.List.{slice_get}
 use Rattle.std.specs.Ordering.{is_lt}
 use Rattle.desk_base.specs.declared.rows.tables.Tables.{Tables}
 use Rattle.desk_base.specs.declared.rows.tables.Table.{Table}
@@ -14,11 +14,11 @@ use Rattle.desk_base.specs.rows.Lookups.{KeysRise}
 use Rattle.desk_base.specs.rows.Rows.{rows_in, key_of, citations_of}
 use Rattle.desk_base.specs.rules.TableLimits.{limit_of}
 use Rattle.desk_base.specs.rules.Sound.{keeps_fields}
-use Rattle.desk_base.specs.asked.Refusing.{is_there}
+use Rattle.desk_rules.specs.Missing.{missing}
 
 -- each row that the row names is there
 abbrev pub cites_there : Tables → AnyRow → Bool
-cites_there t row = list_all (is_there t) (citations_of row)
+cites_there t row = is_none (missing t (citations_of row))
 
 -- the first of the rows that breaks a field rule or a tree rule, by its key
 abbrev pub first_unkept : Tables → List AnyRow → Option Key

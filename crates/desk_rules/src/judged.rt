@@ -1,18 +1,20 @@
-//! Rows as they are judged: under which key each stands, whether it keeps its own rules, and whether what it names is there.
+//! Rows as they are judged: under which key each stands, whether it keeps its own rules, and what it names that is not there.
 ghost use Rattle.std.specs.Prelude.{◌≡◌, option_map};
 ghost use Rattle.std.specs.Option.{option_copied};
 ghost use Rattle.desk_base.specs.rows.Lookups.{KeysRise};
-ghost use Rattle.desk_base.specs.rows.Rows.{key_of};
+ghost use Rattle.desk_base.specs.rows.Rows.{citations_of, key_of};
 ghost use Rattle.desk_base.specs.rules.Sound.{keeps_fields};
 ghost use Rattle.desk_member.specs.Memberships.{AreMemberships};
-ghost use Rattle.desk_rules.specs.Broken.{cites_there};
+ghost use Rattle.desk_rules.specs.Missing.{missing};
 
 use crate::citations;
-use crate::fields::bookings::is_booking;
-use crate::fields::calendars::{is_break, is_calendar, is_day, is_off, is_work, is_zone};
-use crate::fields::groups::is_group;
-use crate::fields::members::is_member;
-use crate::fields::resources::{is_named, is_rated, is_resource, is_unrated};
+use crate::fields::bookings::broken_booking;
+use crate::fields::calendars::{
+    broken_break, broken_calendar, broken_day, broken_off, broken_work, broken_zone,
+};
+use crate::fields::groups::broken_group;
+use crate::fields::members::broken_member;
+use crate::fields::resources::{broken_named, broken_rated, broken_resource, broken_unrated};
 use crate::trees::is_tree;
 use desk_base::{
     BookingRow, BreakRow, CalendarRow, CallerRow, DayRow, GroupRow, HasRow, Key, MemberRow,
@@ -38,10 +40,10 @@ pub(crate) trait Judged {
         requires memberships { AreMemberships tables.now members.now }
         ensures { result ≡ keeps_fields tables.now (any table self.now) };
 
-    /// Whether each row that it names is there.
-    fn cites_there(&self, tables: &Tables, table: Table) -> bool
+    /// The first key that it names under which no row stands.
+    fn first_missing(&self, tables: &Tables, table: Table) -> Option<Key>
         requires { KeysRise tables.now }
-        ensures { result ≡ cites_there tables.now (any table self.now) };
+        ensures { result ≡ missing tables.now (citations_of (any table self.now)) };
 }
 
 /// The key of the row that was found, if one was.
@@ -64,11 +66,11 @@ impl Judged for ZoneRow {
     }
 
     fn keeps_fields(&self, _tables: &Tables, _members: &ByMember, _table: Table) -> bool {
-        is_zone(self)
+        broken_zone(self).is_none()
     }
 
-    fn cites_there(&self, _tables: &Tables, _table: Table) -> bool {
-        true
+    fn first_missing(&self, _tables: &Tables, _table: Table) -> Option<Key> {
+        None
     }
 }
 
@@ -82,10 +84,10 @@ impl Judged for CalendarRow {
     }
 
     fn keeps_fields(&self, _tables: &Tables, _members: &ByMember, _table: Table) -> bool {
-        is_calendar(self)
+        broken_calendar(self).is_none()
     }
 
-    fn cites_there(&self, tables: &Tables, _table: Table) -> bool {
+    fn first_missing(&self, tables: &Tables, _table: Table) -> Option<Key> {
         citations::of_calendar(tables, self)
     }
 }
@@ -105,11 +107,11 @@ impl Judged for WorkRow {
     }
 
     fn keeps_fields(&self, tables: &Tables, _members: &ByMember, _table: Table) -> bool {
-        is_work(tables, self)
+        broken_work(tables, self).is_none()
     }
 
-    fn cites_there(&self, tables: &Tables, _table: Table) -> bool {
-        citations::has_calendar(tables, self.calendar)
+    fn first_missing(&self, tables: &Tables, _table: Table) -> Option<Key> {
+        citations::of_own_calendar(tables, self.calendar)
     }
 }
 
@@ -128,11 +130,11 @@ impl Judged for BreakRow {
     }
 
     fn keeps_fields(&self, _tables: &Tables, _members: &ByMember, _table: Table) -> bool {
-        is_break(self)
+        broken_break(self).is_none()
     }
 
-    fn cites_there(&self, tables: &Tables, _table: Table) -> bool {
-        citations::has_calendar(tables, self.calendar)
+    fn first_missing(&self, tables: &Tables, _table: Table) -> Option<Key> {
+        citations::of_own_calendar(tables, self.calendar)
     }
 }
 
@@ -151,11 +153,11 @@ impl Judged for DayRow {
     }
 
     fn keeps_fields(&self, tables: &Tables, _members: &ByMember, _table: Table) -> bool {
-        is_day(tables, self)
+        broken_day(tables, self).is_none()
     }
 
-    fn cites_there(&self, tables: &Tables, _table: Table) -> bool {
-        citations::has_calendar(tables, self.calendar)
+    fn first_missing(&self, tables: &Tables, _table: Table) -> Option<Key> {
+        citations::of_own_calendar(tables, self.calendar)
     }
 }
 
@@ -174,11 +176,11 @@ impl Judged for OffRow {
     }
 
     fn keeps_fields(&self, _tables: &Tables, _members: &ByMember, _table: Table) -> bool {
-        is_off(self)
+        broken_off(self).is_none()
     }
 
-    fn cites_there(&self, tables: &Tables, _table: Table) -> bool {
-        citations::has_resource(tables, self.resource)
+    fn first_missing(&self, tables: &Tables, _table: Table) -> Option<Key> {
+        citations::of_own_resource(tables, self.resource)
     }
 }
 
@@ -199,12 +201,12 @@ impl Judged for NamedRow {
 
     #[tactic(auto, using(crate::proofs::RowLemmas::named_keeps))]
     fn keeps_fields(&self, _tables: &Tables, _members: &ByMember, _table: Table) -> bool {
-        is_named(self)
+        broken_named(self).is_none()
     }
 
-    #[tactic(auto, using(crate::proofs::RowLemmas::named_cites))]
-    fn cites_there(&self, _tables: &Tables, _table: Table) -> bool {
-        true
+    #[tactic(auto, using(crate::proofs::RowLemmas::named_missing))]
+    fn first_missing(&self, _tables: &Tables, _table: Table) -> Option<Key> {
+        None
     }
 }
 
@@ -218,10 +220,10 @@ impl Judged for ResourceRow {
     }
 
     fn keeps_fields(&self, tables: &Tables, _members: &ByMember, _table: Table) -> bool {
-        is_resource(tables, self)
+        broken_resource(tables, self).is_none()
     }
 
-    fn cites_there(&self, tables: &Tables, _table: Table) -> bool {
+    fn first_missing(&self, tables: &Tables, _table: Table) -> Option<Key> {
         citations::of_resource(tables, self)
     }
 }
@@ -247,12 +249,12 @@ impl Judged for HasRow {
 
     fn keeps_fields(&self, _tables: &Tables, _members: &ByMember, table: Table) -> bool {
         match table {
-            Table::HasCharacteristic => is_rated(self),
-            _ => is_unrated(self),
+            Table::HasCharacteristic => broken_rated(self).is_none(),
+            _ => broken_unrated(self).is_none(),
         }
     }
 
-    fn cites_there(&self, tables: &Tables, table: Table) -> bool {
+    fn first_missing(&self, tables: &Tables, table: Table) -> Option<Key> {
         match table {
             Table::HasCharacteristic => citations::of_has(tables, Table::Characteristic, self),
             Table::HasTerritory => citations::of_has(tables, Table::Territory, self),
@@ -276,10 +278,10 @@ impl Judged for MemberRow {
     }
 
     fn keeps_fields(&self, tables: &Tables, members: &ByMember, _table: Table) -> bool {
-        is_member(tables, members, self)
+        broken_member(tables, members.of_member(self.member), self).is_none()
     }
 
-    fn cites_there(&self, tables: &Tables, _table: Table) -> bool {
+    fn first_missing(&self, tables: &Tables, _table: Table) -> Option<Key> {
         citations::of_member(tables, self)
     }
 }
@@ -294,11 +296,11 @@ impl Judged for GroupRow {
     }
 
     fn keeps_fields(&self, _tables: &Tables, _members: &ByMember, _table: Table) -> bool {
-        is_group(self) && is_tree(self.nodes.as_slice(), self.leaves.len())
+        broken_group(self).is_none() && is_tree(self.nodes.as_slice(), self.leaves.len())
     }
 
-    fn cites_there(&self, tables: &Tables, _table: Table) -> bool {
-        citations::of_leaves(tables, self.leaves.as_slice())
+    fn first_missing(&self, tables: &Tables, _table: Table) -> Option<Key> {
+        citations::of_group(tables, self)
     }
 }
 
@@ -312,10 +314,10 @@ impl Judged for BookingRow {
     }
 
     fn keeps_fields(&self, _tables: &Tables, _members: &ByMember, _table: Table) -> bool {
-        is_booking(self)
+        broken_booking(self).is_none()
     }
 
-    fn cites_there(&self, tables: &Tables, _table: Table) -> bool {
+    fn first_missing(&self, tables: &Tables, _table: Table) -> Option<Key> {
         citations::of_booking(tables, self)
     }
 }
@@ -333,7 +335,7 @@ impl Judged for CallerRow {
         true
     }
 
-    fn cites_there(&self, _tables: &Tables, _table: Table) -> bool {
-        true
+    fn first_missing(&self, _tables: &Tables, _table: Table) -> Option<Key> {
+        None
     }
 }

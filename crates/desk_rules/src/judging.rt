@@ -36,7 +36,8 @@ fn uncited<'a, R: Judged>(tables: &Tables, table: Table, rows: &'a [R]) -> Optio
     requires { KeysRise tables.now }
     ensures { option_copied result ≡ find (λ row. not (cites_there tables.now (R.any table row))) rows.now }
 {
-    rows.iter().find(|row| !row.cites_there(tables, table))
+    rows.iter()
+        .find(|row| row.first_missing(tables, table).is_some())
 }
 
 /// The first of the rows that breaks a field rule or a tree rule, by its key.

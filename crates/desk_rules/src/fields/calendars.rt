@@ -1,6 +1,6 @@
 //! The field rules of zones, calendars, work, breaks, days and times off. A work row and a day row are compared with those of
 //! their own calendar and day alone.
-ghost use Rattle.std.specs.Prelude.{◌≡◌, ◌==◌, ◌&&◌, nat_le, nat_lt, int_le, neg_ℤ, pos, not, map, is_none};
+ghost use Rattle.std.specs.Prelude.{◌≡◌, ◌==◌, ◌&&◌, nat_le, nat_lt, int_le, neg_ℤ, pos, not, map};
 ghost use Rattle.std.specs.List.{list_any, list_all};
 ghost use Rattle.desk_base.specs.rows.Lookups.{KeysRise};
 ghost use Rattle.desk_base.specs.rules.Fields.{overlaps, are_rising, begins_at, are_shifts, is_part_of_day, zone_rules, calendar_rules, work_rules, break_rules, day_rules, off_rules};
@@ -11,7 +11,7 @@ use crate::fields::names::{is_name, is_within_range, overlap};
 use desk_base::limits::{
     CAPACITY_LIMIT, END_OF_MINUTES, FIRST_DAY, FIRST_MINUTE, LAST_DAY, MINUTES_A_DAY, SHIFT_LIMIT,
 };
-use desk_base::{BreakRow, CalendarRow, DayRow, OffRow, Tables, WorkRow, ZoneRow};
+use desk_base::{BreakRow, CalendarRow, DayRow, Field, OffRow, Tables, WorkRow, ZoneRow};
 
 fn are_above(minute: u32, shifts: &[(u32, i32)]) -> bool
     ensures { result ≡ list_all (λ y. nat_lt minute y) (map (λ s. s.0) shifts.now) }
@@ -58,18 +58,28 @@ fn are_shifts(shifts: &[(u32, i32)]) -> bool
         && are_small(shifts)
 }
 
-/// Whether a zone has a name and shifts.
-pub(crate) fn is_zone(zone: &ZoneRow) -> bool
-    ensures { result ≡ is_none (first_broken (zone_rules zone.now)) }
+/// A zone has a name and shifts: the first of these rules that it breaks.
+pub(crate) fn broken_zone(zone: &ZoneRow) -> Option<Field>
+    ensures { result ≡ first_broken (zone_rules zone.now) }
 {
-    is_name(&zone.name) && are_shifts(zone.shifts.as_slice())
+    if !is_name(&zone.name) {
+        Some(Field::Name)
+    } else if !are_shifts(zone.shifts.as_slice()) {
+        Some(Field::Shifts)
+    } else {
+        None
+    }
 }
 
-/// Whether a calendar has a name.
-pub(crate) fn is_calendar(calendar: &CalendarRow) -> bool
-    ensures { result ≡ is_none (first_broken (calendar_rules calendar.now)) }
+/// A calendar has a name.
+pub(crate) fn broken_calendar(calendar: &CalendarRow) -> Option<Field>
+    ensures { result ≡ first_broken (calendar_rules calendar.now) }
 {
-    is_name(&calendar.name)
+    if is_name(&calendar.name) {
+        None
+    } else {
+        Some(Field::Name)
+    }
 }
 
 fn is_part_of_day(from: u16, to: u16) -> bool
@@ -102,22 +112,35 @@ fn meets_other_work(tables: &Tables, work: &WorkRow) -> bool
     meets_work(work, others)
 }
 
-/// Whether a work row keeps its rules among these tables.
-pub(crate) fn is_work(tables: &Tables, work: &WorkRow) -> bool
+/// The first rule that a work row breaks among these tables.
+pub(crate) fn broken_work(tables: &Tables, work: &WorkRow) -> Option<Field>
     requires { KeysRise tables.now }
-    ensures { result ≡ is_none (first_broken (work_rules tables.now work.now)) }
+    ensures { result ≡ first_broken (work_rules tables.now work.now) }
 {
-    work.weekday <= 6
-        && is_part_of_day(work.from, work.to)
-        && is_within_range(1, u32::from(CAPACITY_LIMIT), u32::from(work.capacity))
-        && !meets_other_work(tables, work)
+    if work.weekday > 6 {
+        Some(Field::Weekday)
+    } else if !is_part_of_day(work.from, work.to) {
+        Some(Field::To)
+    } else if !is_within_range(1, u32::from(CAPACITY_LIMIT), u32::from(work.capacity)) {
+        Some(Field::Capacity)
+    } else if meets_other_work(tables, work) {
+        Some(Field::Overlap)
+    } else {
+        None
+    }
 }
 
-/// Whether a break lies in a day of the week.
-pub(crate) fn is_break(pause: &BreakRow) -> bool
-    ensures { result ≡ is_none (first_broken (break_rules pause.now)) }
+/// A break lies in a day of the week: the first of these rules that it breaks.
+pub(crate) fn broken_break(pause: &BreakRow) -> Option<Field>
+    ensures { result ≡ first_broken (break_rules pause.now) }
 {
-    pause.weekday <= 6 && is_part_of_day(pause.from, pause.to)
+    if pause.weekday > 6 {
+        Some(Field::Weekday)
+    } else if !is_part_of_day(pause.from, pause.to) {
+        Some(Field::To)
+    } else {
+        None
+    }
 }
 
 /// The day row meets one of another time among these.
@@ -144,20 +167,31 @@ fn meets_other_day(tables: &Tables, day: &DayRow) -> bool
     meets_day(day, others)
 }
 
-/// Whether a day row keeps its rules among these tables.
-pub(crate) fn is_day(tables: &Tables, day: &DayRow) -> bool
+/// The first rule that a day row breaks among these tables.
+pub(crate) fn broken_day(tables: &Tables, day: &DayRow) -> Option<Field>
     requires { KeysRise tables.now }
-    ensures { result ≡ is_none (first_broken (day_rules tables.now day.now)) }
+    ensures { result ≡ first_broken (day_rules tables.now day.now) }
 {
-    is_within_range(FIRST_DAY, LAST_DAY, day.day)
-        && is_part_of_day(day.from, day.to)
-        && day.capacity <= CAPACITY_LIMIT
-        && !meets_other_day(tables, day)
+    if !is_within_range(FIRST_DAY, LAST_DAY, day.day) {
+        Some(Field::Day)
+    } else if !is_part_of_day(day.from, day.to) {
+        Some(Field::To)
+    } else if day.capacity > CAPACITY_LIMIT {
+        Some(Field::Capacity)
+    } else if meets_other_day(tables, day) {
+        Some(Field::Overlap)
+    } else {
+        None
+    }
 }
 
-/// Whether a time off is not empty.
-pub(crate) fn is_off(off: &OffRow) -> bool
-    ensures { result ≡ is_none (first_broken (off_rules off.now)) }
+/// A time off is not empty.
+pub(crate) fn broken_off(off: &OffRow) -> Option<Field>
+    ensures { result ≡ first_broken (off_rules off.now) }
 {
-    off.from.get() < off.to.get()
+    if off.from.get() < off.to.get() {
+        None
+    } else {
+        Some(Field::To)
+    }
 }

@@ -1,5 +1,5 @@
 //! The field rules of requirement groups and of their leaves.
-ghost use Rattle.std.specs.Prelude.{◌≡◌, ◌-◌, ◌==◌, ◌&&◌, is_none, nat_le, nat_lt, map, true};
+ghost use Rattle.std.specs.Prelude.{◌≡◌, ◌-◌, ◌==◌, ◌&&◌, nat_le, nat_lt, map, true};
 ghost use Rattle.std.specs.List.{list_all, list_any};
 ghost use Rattle.std.specs.Option.{option_map_or};
 ghost use Rattle.desk_base.specs.rules.Fields.{are_distinct, group_rules, is_list, is_within_range, join_rules, leaf_rules};
@@ -12,7 +12,7 @@ use desk_base::limits::{
     DURATION_LIMIT, EFFORT_LIMIT, LEAST_STEP, LIST_LIMIT, MINUTES_A_DAY, OFFSET_LIMIT,
     RATING_LIMIT, WINDOW_LIMIT,
 };
-use desk_base::{CharacteristicId, GroupRow, Id, Kind, Leaf, Window};
+use desk_base::{CharacteristicId, Field, GroupRow, Id, Kind, Leaf, Window};
 
 /// What a list of a leaf has: something that is known by a number.
 trait Numbered {
@@ -93,57 +93,83 @@ fn is_window(window: &Option<Window>) -> bool
     }
 }
 
-fn has_numbers(leaf: &Leaf) -> bool
-    ensures { result ≡ is_none (first_broken (number_rules leaf.now)) }
+/// The first rule on the numbers of a leaf that it breaks.
+fn broken_number(leaf: &Leaf) -> Option<Field>
+    ensures { result ≡ first_broken (number_rules leaf.now) }
 {
-    is_within_range(1, DURATION_LIMIT, leaf.duration)
-        && leaf.offset <= OFFSET_LIMIT
-        && is_within_range(1, EFFORT_LIMIT, leaf.effort)
+    if !is_within_range(1, DURATION_LIMIT, leaf.duration) {
+        Some(Field::Duration)
+    } else if OFFSET_LIMIT < leaf.offset {
+        Some(Field::Offset)
+    } else if !is_within_range(1, EFFORT_LIMIT, leaf.effort) {
+        Some(Field::Effort)
+    } else {
+        None
+    }
 }
 
-fn has_lists(leaf: &Leaf) -> bool
-    ensures { result ≡ is_none (first_broken (list_rules leaf.now)) }
+/// The first of the lists of a leaf that is too long or has something twice.
+fn broken_list(leaf: &Leaf) -> Option<Field>
+    ensures { result ≡ first_broken (list_rules leaf.now) }
 {
-    is_list(leaf.kinds.as_slice())
-        && is_list(leaf.roles.as_slice())
-        && is_list(leaf.characteristics.as_slice())
-        && is_list(leaf.territories.as_slice())
-        && is_list(leaf.units.as_slice())
-        && is_list(leaf.required.as_slice())
-        && is_list(leaf.restricted.as_slice())
+    if !is_list(leaf.kinds.as_slice()) {
+        Some(Field::Kinds)
+    } else if !is_list(leaf.roles.as_slice()) {
+        Some(Field::Roles)
+    } else if !is_list(leaf.characteristics.as_slice()) {
+        Some(Field::Characteristics)
+    } else if !is_list(leaf.territories.as_slice()) {
+        Some(Field::Territories)
+    } else if !is_list(leaf.units.as_slice()) {
+        Some(Field::Units)
+    } else if !is_list(leaf.required.as_slice()) {
+        Some(Field::Required)
+    } else if !is_list(leaf.restricted.as_slice()) {
+        Some(Field::Restricted)
+    } else {
+        None
+    }
 }
 
-fn has_ratings_and_window(leaf: &Leaf) -> bool
-    ensures { result ≡ is_none (first_broken (last_rules leaf.now)) }
+/// The first rule on the ratings and the window of a leaf that it breaks.
+fn broken_last(leaf: &Leaf) -> Option<Field>
+    ensures { result ≡ first_broken (last_rules leaf.now) }
 {
-    are_ratings(leaf.characteristics.as_slice()) && is_window(&leaf.window)
+    if !are_ratings(leaf.characteristics.as_slice()) {
+        Some(Field::Rating)
+    } else if !is_window(&leaf.window) {
+        Some(Field::Window)
+    } else {
+        None
+    }
 }
 
-/// Whether a leaf keeps its rules.
+/// The first rule that a leaf breaks.
 #[tactic(auto, using(crate::proofs::Tests::leaf_parts))]
-fn is_leaf(leaf: &Leaf) -> bool
-    ensures { result ≡ is_none (first_broken (leaf_rules leaf.now)) }
+fn broken_leaf(leaf: &Leaf) -> Option<Field>
+    ensures { result ≡ first_broken (leaf_rules leaf.now) }
 {
-    if !has_numbers(leaf) {
-        return false;
+    match broken_number(leaf) {
+        Some(field) => Some(field),
+        None => match broken_list(leaf) {
+            Some(field) => Some(field),
+            None => broken_last(leaf),
+        },
     }
-    if !has_lists(leaf) {
-        return false;
-    }
-    has_ratings_and_window(leaf)
 }
 
-fn are_each_leaf(leaves: &[Leaf]) -> bool
-    ensures { result ≡ list_all (λ leaf. is_none (first_broken (leaf_rules leaf))) leaves.now }
+/// The first rule that the first of the leaves that breaks one breaks.
+#[tactic(auto, using(crate::proofs::Tests::broken_append))]
+fn broken_leaves(leaves: &[Leaf]) -> Option<Field>
+    ensures { result ≡ first_broken (join_rules leaf_rules leaves.now) }
 {
-    leaves.iter().all(|leaf| is_leaf(leaf))
-}
-
-/// Whether each of the leaves keeps its rules.
-fn are_leaves(leaves: &[Leaf]) -> bool
-    ensures { result ≡ is_none (first_broken (join_rules leaf_rules leaves.now)) }
-{
-    are_each_leaf(leaves)
+    match leaves {
+        [] => None,
+        [first, others @ ..] => match broken_leaf(first) {
+            Some(field) => Some(field),
+            None => broken_leaves(others),
+        },
+    }
 }
 
 /// The window begins before it ends, and is not too long.
@@ -155,12 +181,17 @@ fn has_window(group: &GroupRow) -> bool
     from < to && to - from <= WINDOW_LIMIT
 }
 
-/// Whether a group and each of its leaves keep their rules.
-pub(crate) fn is_group(group: &GroupRow) -> bool
-    ensures { result ≡ is_none (first_broken (group_rules group.now)) }
+/// The first rule that a group or one of its leaves breaks.
+pub fn broken_group(group: &GroupRow) -> Option<Field>
+    ensures { result ≡ first_broken (group_rules group.now) }
 {
-    is_name(&group.name)
-        && has_window(group)
-        && is_within_range(u32::from(LEAST_STEP), MINUTES_A_DAY, u32::from(group.step))
-        && are_leaves(group.leaves.as_slice())
+    if !is_name(&group.name) {
+        Some(Field::Name)
+    } else if !has_window(group) {
+        Some(Field::To)
+    } else if !is_within_range(u32::from(LEAST_STEP), MINUTES_A_DAY, u32::from(group.step)) {
+        Some(Field::Step)
+    } else {
+        broken_leaves(group.leaves.as_slice())
+    }
 }

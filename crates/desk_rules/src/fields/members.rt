@@ -1,15 +1,14 @@
 //! The field rules of memberships. A membership is compared with those of its own member alone.
-ghost use Rattle.std.specs.Prelude.{◌≡◌, ◌==◌, ◌&&◌, is_none, not};
+ghost use Rattle.std.specs.Prelude.{◌≡◌, ◌==◌, ◌&&◌, not};
 ghost use Rattle.std.specs.List.{list_any};
 ghost use Rattle.desk_base.specs.meaning.Load.{sort_of};
 ghost use Rattle.desk_base.specs.rows.Lookups.{KeysRise};
 ghost use Rattle.desk_base.specs.rules.Fields.{are_of_one_kind, is_group, is_plain, is_same_membership, member_rules, overlaps};
 ghost use Rattle.desk_base.specs.rules.Rules.{first_broken};
-ghost use Rattle.desk_member.specs.Memberships.{AreMemberships};
+ghost use Rattle.desk_member.specs.Memberships.{of_member};
 
 use crate::fields::names::overlap;
-use desk_base::{MemberRow, ResourceId, Tables};
-use desk_member::ByMember;
+use desk_base::{Field, MemberRow, ResourceId, Tables};
 
 /// Whether it is a crew or a pool.
 fn is_group(tables: &Tables, id: ResourceId) -> bool
@@ -78,24 +77,30 @@ fn meets_one(tables: &Tables, others: &[MemberRow], row: &MemberRow) -> bool
     others.iter().any(|other| meets(tables, other, row))
 }
 
-/// The membership meets another of its member in a group of the same kind.
-fn meets_another(tables: &Tables, members: &ByMember, row: &MemberRow) -> bool
+/// The membership meets another of its member in a group of the same kind. `own` are the memberships of its member.
+fn meets_another(tables: &Tables, own: &[MemberRow], row: &MemberRow) -> bool
     requires rise { KeysRise tables.now }
-    requires memberships { AreMemberships tables.now members.now }
+    requires own { own.now ≡ of_member row.now.member tables.now.members }
     ensures { result ≡ list_any (λ y. (y.member == row.now.member) && not (is_same_membership y row.now) && are_of_one_kind tables.now y.group row.now.group && overlaps y.from y.to row.now.from row.now.to) tables.now.members }
 {
-    let others = members.of_member(row.member);
-    meets_one(tables, others, row)
+    meets_one(tables, own, row)
 }
 
-/// Whether a membership keeps its rules among these tables.
-pub(crate) fn is_member(tables: &Tables, members: &ByMember, row: &MemberRow) -> bool
+/// The first rule that a membership breaks among these tables. `own` are the memberships of its member.
+pub(crate) fn broken_member(tables: &Tables, own: &[MemberRow], row: &MemberRow) -> Option<Field>
     requires rise { KeysRise tables.now }
-    requires memberships { AreMemberships tables.now members.now }
-    ensures { result ≡ is_none (first_broken (member_rules tables.now row.now)) }
+    requires own { own.now ≡ of_member row.now.member tables.now.members }
+    ensures { result ≡ first_broken (member_rules tables.now row.now) }
 {
-    is_group(tables, row.group)
-        && is_plain(tables, row.member)
-        && row.from.get() < row.to.get()
-        && !meets_another(tables, members, row)
+    if !is_group(tables, row.group) {
+        Some(Field::Group)
+    } else if !is_plain(tables, row.member) {
+        Some(Field::Member)
+    } else if row.from.get() >= row.to.get() {
+        Some(Field::To)
+    } else if meets_another(tables, own, row) {
+        Some(Field::Overlap)
+    } else {
+        None
+    }
 }

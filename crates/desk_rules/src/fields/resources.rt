@@ -1,5 +1,5 @@
 //! The field rules of named rows, of resources, and of what resources have.
-ghost use Rattle.std.specs.Prelude.{◌≡◌, is_none, is_some};
+ghost use Rattle.std.specs.Prelude.{◌≡◌, is_some};
 ghost use Rattle.desk_base.specs.meaning.Load.{sort_of_kind};
 ghost use Rattle.desk_base.specs.rows.Lookups.{KeysRise};
 ghost use Rattle.desk_base.specs.rules.Fields.{is_plain, keeps_kind, named_rules, rated_rules, resource_rules, same_bit, unrated_rules};
@@ -7,13 +7,19 @@ ghost use Rattle.desk_base.specs.rules.Rules.{first_broken};
 
 use crate::fields::names::{is_name, is_within_range};
 use desk_base::limits::{ID_LIMIT, RATING_LIMIT};
-use desk_base::{HasRow, NamedRow, ResourceRow, Tables};
+use desk_base::{Field, HasRow, NamedRow, ResourceRow, Tables};
 
-/// Whether a unit, site, role, characteristic or territory has an id and a name.
-pub(crate) fn is_named(row: &NamedRow) -> bool
-    ensures { result ≡ is_none (first_broken (named_rules row.now)) }
+/// A unit, site, role, characteristic or territory has an id and a name: the first of these rules that it breaks.
+pub(crate) fn broken_named(row: &NamedRow) -> Option<Field>
+    ensures { result ≡ first_broken (named_rules row.now) }
 {
-    is_within_range(1, ID_LIMIT, row.id) && is_name(&row.name)
+    if !is_within_range(1, ID_LIMIT, row.id) {
+        Some(Field::Id)
+    } else if !is_name(&row.name) {
+        Some(Field::Name)
+    } else {
+        None
+    }
 }
 
 /// The resource that stands under the same id, if any, has the same kind.
@@ -34,24 +40,40 @@ fn has_due_calendar(resource: &ResourceRow) -> bool
     resource.calendar.is_some() == resource.kind.is_plain()
 }
 
-/// Whether a resource keeps its rules among these tables.
-pub(crate) fn is_resource(tables: &Tables, resource: &ResourceRow) -> bool
+/// The first rule that a resource breaks among these tables.
+pub(crate) fn broken_resource(tables: &Tables, resource: &ResourceRow) -> Option<Field>
     requires { KeysRise tables.now }
-    ensures { result ≡ is_none (first_broken (resource_rules tables.now resource.now)) }
+    ensures { result ≡ first_broken (resource_rules tables.now resource.now) }
 {
-    is_name(&resource.name) && keeps_kind(tables, resource) && has_due_calendar(resource)
+    if !is_name(&resource.name) {
+        Some(Field::Name)
+    } else if !keeps_kind(tables, resource) {
+        Some(Field::Kind)
+    } else if !has_due_calendar(resource) {
+        Some(Field::Calendar)
+    } else {
+        None
+    }
 }
 
-/// Whether a role or a territory has no rating.
-pub(crate) fn is_unrated(row: &HasRow) -> bool
-    ensures { result ≡ is_none (first_broken (unrated_rules row.now)) }
+/// A role or a territory has no rating.
+pub(crate) fn broken_unrated(row: &HasRow) -> Option<Field>
+    ensures { result ≡ first_broken (unrated_rules row.now) }
 {
-    row.rating == 0
+    if row.rating == 0 {
+        None
+    } else {
+        Some(Field::Rating)
+    }
 }
 
-/// Whether a characteristic has a rating.
-pub(crate) fn is_rated(row: &HasRow) -> bool
-    ensures { result ≡ is_none (first_broken (rated_rules row.now)) }
+/// A characteristic has a rating.
+pub(crate) fn broken_rated(row: &HasRow) -> Option<Field>
+    ensures { result ≡ first_broken (rated_rules row.now) }
 {
-    is_within_range(1, u32::from(RATING_LIMIT), u32::from(row.rating))
+    if is_within_range(1, u32::from(RATING_LIMIT), u32::from(row.rating)) {
+        None
+    } else {
+        Some(Field::Rating)
+    }
 }

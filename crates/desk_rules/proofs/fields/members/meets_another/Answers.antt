@@ -10,5 +10,5 @@ returns c =
     let t = c.args.tables.now in
     let x : MemberRow = c.args.row.now in
     let meets = λ (y : MemberRow). not (is_same_membership y x) && are_of_one_kind t y.group x.group && overlaps y.from y.to x.from x.to in
-    c.meets_one.ensures ∙ ap (list_any meets) (c.of_member-others.ensures ∙ c.requires.memberships.each x.member)
+    c.meets_one.ensures ∙ ap (list_any meets) c.requires.own
     ∙ any_within_three (λ (y : MemberRow). y.member == x.member) (λ y. not (is_same_membership y x)) (λ y. are_of_one_kind t y.group x.group) (λ y. overlaps y.from y.to x.from x.to) t.members
