@@ -10,6 +10,9 @@ use Rattle.desk_core.proofs.book.Book.change.Goals as goal
 pub same-self : goal.same-self
 same-self c = refl
 
+pub kept_receipt-requires : goal.kept_receipt-requires
+kept_receipt-requires c = c.self.invariant.0.sound
+
 pub carry_out-requires-clause-sound : goal.carry_out-requires-clause-sound
 carry_out-requires-clause-sound c = c.self.invariant.0.sound
 
