@@ -1,5 +1,7 @@
 pub mod Among
+pub mod Bearing
 pub mod Bounded
+pub mod Differing
 pub mod Finding
 pub mod Following
 pub mod Grouped

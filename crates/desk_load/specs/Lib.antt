@@ -2,6 +2,7 @@
 pub mod Boards
 pub mod Changed
 pub mod Clashes
+pub mod Differing
 pub mod Effects
 pub mod Index
 pub mod Lists

@@ -19,6 +19,7 @@ pub use changes::PreparedIndex;
 pub use index::LoadIndex;
 pub use lists::BookingList;
 pub use view::boards::{room_profile, weight_profile};
+pub use view::changed::clash_changed;
 pub use view::clash::{clash, clash_standing};
 pub use view::demand::Demand;
 pub use view::fits::StartList;

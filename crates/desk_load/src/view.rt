@@ -3,6 +3,7 @@
 //! A view borrows the index and its tables. What it is asked of a minute is found by halving, with the minute until which it
 //! stays; so a probe walks the stretches in which nothing changes, and takes no memory.
 pub mod boards;
+pub mod changed;
 pub mod clash;
 pub mod demand;
 pub mod fits;
