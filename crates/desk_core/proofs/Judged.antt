@@ -1,5 +1,5 @@
 -- On which tables a change is judged, and what that says of the tables after it.
-use Rattle.std.proofs.Common.{◌≡◌, Bool, true, false, cond, List, [], map, Some, None, refl, sym, ap, ◌∙◌, subst}
+use Rattle.std.proofs.Common.{◌≡◌, Bool, true, false, cond, List, [], map, Some, None, refl, sym, subst}
 use Rattle.std.proofs.lemmas.Bool.{false≢true}
 use Rattle.std.specs.Prelude.{Result, Ok, Err, OnOk, IfErr}
 use Rattle.desk_base.specs.declared.rows.tables.Tables.{Tables}
@@ -11,7 +11,6 @@ use Rattle.desk_base.specs.declared.rows.bookings.BookingRow.{BookingRow}
 use Rattle.desk_base.specs.declared.asked.acts.Act.{Act}
 use Rattle.desk_base.specs.declared.asked.acts.Act.TheVariants as act
 use Rattle.desk_base.specs.declared.asked.acts.Call.{Call}
-use Rattle.desk_base.specs.declared.asked.acts.Change.{Change}
 use Rattle.desk_base.specs.declared.asked.acts.Entry.{Entry}
 use Rattle.desk_base.specs.declared.asked.refusals.Clash.{Clash}
 use Rattle.desk_base.specs.declared.asked.refusals.Refusal.TheVariants.{Conflict}
@@ -22,13 +21,11 @@ use Rattle.desk_base.specs.asked.Refusing.{early_refusal}
 use Rattle.desk_base.specs.asked.Acts.{after_act, change_of}
 use Rattle.desk_base.specs.asked.Steps.{bears_on_room, IsConflict}
 use Rattle.desk_base.specs.rules.Sound.{IsSound, AreWellFormed}
-use Rattle.desk_base.proofs.tables.Sounds.{well_formed}
+use Rattle.desk_base.proofs.tables.Sounds.{well_formed, bookings_fit, keys_rise}
 use Rattle.desk_base.proofs.puts.AcceptedPuts.{sound_put_group}
 use Rattle.desk_base.proofs.booked.AcceptedBookings.{sound_cancel}
 use Rattle.desk_load.specs.Effects.{KeepIndexed}
-use Rattle.desk_load.specs.Index.{IsIndexOf}
-use Rattle.desk_load.specs.Parted.{IndexParts}
-use Rattle.desk_load.proofs.Keeping.{index_kept}
+use Rattle.desk_load.proofs.Differing.{differs_with_change_put}
 use Rattle.desk_change.specs.Served.{is_master, IsServed}
 use Rattle.desk_change.proofs.WellFormedPuts.{well_formed_put}
 use Rattle.desk_change.proofs.removed.Removals.{well_formed_without, well_formed_remove, of_master}
@@ -38,7 +35,7 @@ use Rattle.desk_change.proofs.removed.Drops.{sound_drop}
 use Rattle.desk_core.specs.declared.entering.NotEntered.{NotEntered}
 use Rattle.desk_core.specs.declared.entering.NotEntered.TheVariants.{Refused, NoMemory}
 use Rattle.desk_core.specs.Effects.{IsPlaced}
-use Rattle.desk_core.specs.Entered.{act_bears_on_room, judged, CanBeEntered, FitAfter, FitIn, IsClashing, IsClashingIn, IsLateHindrance, IsOf}
+use Rattle.desk_core.specs.Entered.{judged, CanBeEntered, FitAfter, FitIn, IsClashing, IsClashingIn, IsLateHindrance, IsOf}
 use Rattle.desk_core.proofs.Booked.{sound_placed_book, sound_placed_move}
 
 pub after_is : (t : Tables) (call : Call) (a : Act) → after_act t call a ≡ with_change t (change_of t call a)
@@ -70,7 +67,7 @@ module _ (t : Tables) (journal : List Entry) (call : Call) (s : IsSound t) where
   formed_after (act.CancelGroup group) m e p = well_formed (after_act t call (act.CancelGroup group)) (sound_cancel t journal call group s e)
 
   is_of : (a : Act) → IsServed a → early_refusal t journal call a ≡ None → IsOf t a (change_of t call a)
-  is_of (act.Put row) m e = refl
+  is_of (act.Put row) m e = (refl, λ q. differs_with_change_put t call row (λ table. keys_rise t table s) q)
   is_of (act.Remove key) m e = (well_formed_without t journal call key s m e, kept_indexed t call key)
   is_of (act.PutGroup g) m e = tt
   is_of (act.DropGroup group) m e = tt
@@ -79,7 +76,7 @@ module _ (t : Tables) (journal : List Entry) (call : Call) (s : IsSound t) where
   is_of (act.CancelGroup group) m e = tt
 
   pub can_be_entered : (a : Act) → IsServed a → early_refusal t journal call a ≡ None → IsPlaced t a → CanBeEntered t a (change_of t call a)
-  can_be_entered a m e p = record { formed = well_formed t s; changed = subst AreWellFormed (after_is t call a) (formed_after a m e p); of = is_of a m e }
+  can_be_entered a m e p = record { before = record { formed = well_formed t s; fits = bookings_fit t s }; changed = subst AreWellFormed (after_is t call a) (formed_after a m e p); of = is_of a m e }
 
 -- ---- what the judgement says of the tables after the act
 

@@ -5,6 +5,5 @@ pub mod GroupCounts
 pub mod Booked
 pub mod Judged
 pub mod Revisions
-pub mod Elsewhere
 pub mod Unrefused
 pub mod Outcomes

@@ -31,7 +31,7 @@ module _ (opened t : Tables) (journal : List Entry) (pass : ℕ) (call : Call) (
   kept_by (Ok receipt) t' journal' kept ok s h k m n =
       let l = legal_entry opened t journal pass call a kept.after kept.legal fresh ok in record {
         sound = s;
-            legal = subst (IsLegal opened) (sym k) l.1;
+        legal = subst (IsLegal opened) (sym k) l.1;
         after = h ∙ l.0 ∙ ap (after_journal opened) (sym k);
       }
   kept_by (Err x) t' journal' kept ok s h k m n = record {

@@ -1,5 +1,5 @@
 -- What an accepted act comes to.
-use Rattle.std.specs.Prelude.{ℕ, ◌+◌, List, [], map, length, Option, Some, None, IsSome, ⊤}
+use Rattle.std.specs.Prelude.{ℕ, ◌+◌, List, map, length, Option, Some, None, IsSome, ⊤}
 use Rattle.desk_base.specs.declared.rows.tables.Tables.{Tables}
 use Rattle.desk_base.specs.declared.rows.tables.Key.{Key}
 use Rattle.desk_base.specs.declared.rows.tables.AnyRow.TheVariants.{Booking}

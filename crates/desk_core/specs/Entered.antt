@@ -2,6 +2,7 @@
 use Rattle.std.specs.Prelude.{◌≡◌, Bool, true, false, List, [], map, Option, Some, None, if◌then◌else◌, Result, Ok, Err, ⊤}
 use Rattle.desk_base.specs.declared.rows.bookings.Receipt.{Receipt}
 use Rattle.desk_base.specs.declared.rows.tables.Tables.{Tables}
+use Rattle.desk_load.specs.Differing.{DiffersAt}
 use Rattle.desk_load.specs.Effects.{KeepIndexed}
 use Rattle.desk_base.specs.declared.asked.acts.Act.{Act}
 use Rattle.desk_base.specs.declared.asked.acts.Act.TheVariants as act
@@ -39,13 +40,18 @@ judged t _ c = None
 
 -- the change is one that such an act comes to, and can be judged
 abbrev pub IsOf : Tables → Act → Change → Type 0
-IsOf t (act.Put row) c = c.removes ≡ []
+IsOf t (act.Put row) c = (c.removes ≡ []) × (bears_on_room (key_of row).table ≡ true → DiffersAt t (with_change t c) (key_of row))
 IsOf t (act.Remove key) c = AreWellFormed (without_key t key) × KeepIndexed (with_change t c) (without_key t key)
 IsOf t _ c = ⊤
 
--- the tables before the change and with it are well formed
-pub record CanBeEntered (t : Tables) (a : Act) (c : Change) : Type 0 where
+-- well-formed tables, in which the standing bookings fit
+pub record IsFitting (t : Tables) : Type 0 where
   pub formed : AreWellFormed t
+  pub fits : Fits t (map ask_of t.bookings)
+
+-- the bookings fit before the change, and with it the tables are well formed
+pub record CanBeEntered (t : Tables) (a : Act) (c : Change) : Type 0 where
+  pub before : IsFitting t
   pub changed : AreWellFormed (with_change t c)
   pub of : IsOf t a c
 

@@ -7,9 +7,10 @@ ghost use Rattle.desk_base.specs.changes.Changes.{with_change, without_key};
 ghost use Rattle.desk_base.specs.meaning.Load.{Fits, ask_of};
 ghost use Rattle.desk_base.specs.rules.Limits.{serial_limit};
 ghost use Rattle.desk_base.specs.rules.Sound.{AreWellFormed, IsSound};
+ghost use Rattle.desk_load.specs.Differing.{DiffersAt};
 ghost use Rattle.desk_load.specs.Index.{IsIndexOf};
 ghost use Rattle.desk_core.specs.Effects.{IsPlaced};
-ghost use Rattle.desk_core.specs.Entered.{entered_outcome, judged, CanBeEntered, FitIn, IsClashing, IsClashingIn};
+ghost use Rattle.desk_core.specs.Entered.{entered_outcome, judged, CanBeEntered, FitIn, IsClashing, IsClashingIn, IsFitting};
 
 use crate::accepting::{Accepted, accept};
 use crate::judging::{judge_without, keep_or_take_back};
@@ -20,6 +21,7 @@ use desk_base::{
 use desk_load::{LoadIndex, PreparedIndex};
 use std::alloc::Global;
 use std::mem;
+use std::snapshot::Snapshot;
 
 /// Why a change was not entered.
 #[derive(Debug, Drop)]
@@ -72,15 +74,18 @@ fn applied(tables: Tables, index: PreparedIndex, change: Change) -> (View, Resul
     }
 }
 
-/// The tables with a change that only puts rows and their index, where the standing bookings fit them, or else both as they were.
+/// The tables with a change that puts the row of a key and their index, where the standing bookings fit them, or else both as they
+/// were.
 fn tried(
     alloc: Global,
     tables: Tables,
     index: PreparedIndex,
+    key: &Key,
     change: Change,
 ) -> (View, Result<(), NotEntered>)
-    requires formed { AreWellFormed tables }
+    requires before { IsFitting tables }
     requires no_removes { change.removes ≡ [] }
+    requires differs { DiffersAt tables (with_change tables change) key.now }
     requires changed { AreWellFormed (with_change tables change) }
     requires index { IsIndexOf (with_change tables change) index.after }
     ensures after { OnOk result.1 (result.0 ≡ record { tables = with_change tables change; index = index.after }) }
@@ -88,8 +93,9 @@ fn tried(
     ensures refused { IfErr result.1 (IsClashing (with_change tables change)) }
     ensures before { OnErr result.1 (result.0 ≡ record { tables = tables; index = index.before }) }
 {
+    let before = Snapshot::of(&tables);
     match tables.prepare(change) {
-        Ok(prepared) => keep_or_take_back(alloc, prepared.try_out(), index),
+        Ok(prepared) => keep_or_take_back(alloc, before, prepared.try_out(), index, key),
         Err(tables) => (
             View {
                 tables,
@@ -109,7 +115,7 @@ fn removed(
     key: &Key,
     change: Change,
 ) -> (View, Result<(), NotEntered>)
-    requires formed { AreWellFormed tables }
+    requires before { IsFitting tables }
     requires bears { bears_on_room key.now.table ≡ true }
     requires without { AreWellFormed (without_key tables key.now) }
     requires index { IsIndexOf (without_key tables key.now) index.after }
@@ -147,8 +153,9 @@ fn changed(
 {
     match act {
         Act::Put(row) => {
-            if bears_on_room(row.key().table) {
-                tried(alloc, tables, index, change)
+            let key = row.key();
+            if bears_on_room(key.table) {
+                tried(alloc, tables, index, &key, change)
             } else {
                 applied(tables, index, change)
             }

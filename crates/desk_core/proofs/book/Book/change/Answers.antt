@@ -24,9 +24,9 @@ carry_out-requires-clause-served c = c.requires
 
 pub invariant_of-self : goal.invariant_of-self
 invariant_of-self c = (
-    kept_by c.self.inside.opened.value c.self.inside.view.tables c.self.inside.journal.items c.args.pass c.args.call.now c.args.act.now (sym c.in-None.ensures) c.carry_out.result c.carry_out.new.view.tables c.carry_out.new.journal.items
-    c.self.invariant.0 c.carry_out.ensures.accepted c.carry_out.ensures.sound c.carry_out.ensures.after c.carry_out.ensures.entered c.carry_out.ensures.same_tables c.carry_out.ensures.same_journal,
-    c.carry_out.ensures.index,
+  kept_by c.self.inside.opened.value c.self.inside.view.tables c.self.inside.journal.items c.args.pass c.args.call.now c.args.act.now (sym c.in-None.ensures) c.carry_out.result c.carry_out.new.view.tables c.carry_out.new.journal.items
+      c.self.invariant.0 c.carry_out.ensures.accepted c.carry_out.ensures.sound c.carry_out.ensures.after c.carry_out.ensures.entered c.carry_out.ensures.same_tables c.carry_out.ensures.same_journal,
+  c.carry_out.ensures.index,
 )
 
 pub returns-in-Some-clause-turn : goal.returns-in-Some-clause-turn
