@@ -77,6 +77,22 @@ numbered k table n e = equal n k.a (sym (ap (λ (j : Key). j.a) (is_key-same k (
 pub in_table : (k : Key) (table : Table) (n : ℕ) → is_key k (id_key table n) ≡ true → k.table ≡ table
 in_table k table n e = ap (λ (j : Key). j.table) (is_key-same k (id_key table n) e)
 
+-- a key of another table is none of these
+other_key : (k : Key) (table : Table) (n : ℕ) → (table_number k.table == table_number table) ≡ false → is_key k (id_key table n) ≡ false
+other_key k table n e = step (is_key k (id_key table n)) refl
+  where
+    step : (b : Bool) → is_key k (id_key table n) ≡ b → is_key k (id_key table n) ≡ false
+    step true f = absurd (false≢true (sym e ∙ equal (table_number k.table) (table_number table) (ap table_number (in_table k table n f))))
+    step false f = f
+
+pub other_ids : (k : Key) (table : Table) (ids : List ℕ) → (table_number k.table == table_number table) ≡ false → list_any (is_key k) (map (id_key table) ids) ≡ false
+other_ids k table [] e = refl
+other_ids k table (n ∷ ids) e = ap (λ b. b || list_any (is_key k) (map (id_key table) ids)) (other_key k table n e) ∙ other_ids k table ids e
+
+pub other_ratings : (k : Key) (ratings : List (ℕ × ℕ)) → (table_number k.table == table_number CharacteristicTable) ≡ false → list_any (is_key k) (map (λ c. id_key CharacteristicTable c.0) ratings) ≡ false
+other_ratings k [] e = refl
+other_ratings k (c ∷ ratings) e = ap (λ b. b || list_any (is_key k) (map (λ c. id_key CharacteristicTable c.0) ratings)) (other_key k CharacteristicTable c.0 e) ∙ other_ratings k ratings e
+
 alone : (k : Key) (table : Table) (n : ℕ) → (is_key k (id_key table n) || false) ≡ true → (n == k.a) ≡ true
 alone k table n e = elim (one_holds (is_key k (id_key table n)) false e) [
   | inl f ↦ numbered k table n f

@@ -1,9 +1,9 @@
 //! Whether a row names a key.
-ghost use Rattle.std.specs.Prelude.{◌≡◌, flat_map, map};
+ghost use Rattle.std.specs.Prelude.{◌≡◌, ◌==◌, flat_map, map};
 ghost use Rattle.std.specs.List.{list_any};
 ghost use Rattle.desk_base.specs.asked.Refusing.{cites, is_key};
 ghost use Rattle.desk_base.specs.declared.rows.tables.Table.TheVariants.{Characteristic};
-ghost use Rattle.desk_base.specs.rows.Keys.{id_key};
+ghost use Rattle.desk_base.specs.rows.Keys.{id_key, table_number};
 ghost use Rattle.desk_base.specs.rows.Rows.{key_of, leaf_citations};
 
 use desk_base::{
@@ -50,6 +50,13 @@ fn is_among(key: &Key, keys: &[Key]) -> bool
     }
 }
 
+/// Whether the key is of the table.
+fn is_of_table(key: &Key, table: Table) -> bool
+    ensures { result ≡ (table_number key.now.table == table_number table) }
+{
+    key.table.number() == table.number()
+}
+
 /// Whether the key is that of one of these numbers.
 fn is_of_ids<K>(key: &Key, table: Table, ids: &[Id<K>]) -> bool
     ensures { result ≡ list_any (is_key key.now) (map (id_key table) ids.now) }
@@ -60,6 +67,14 @@ fn is_of_ids<K>(key: &Key, table: Table, ids: &[Id<K>]) -> bool
             is_key(key, &Key::of_id(table, first.get())) || is_of_ids(key, table, others)
         }
     }
+}
+
+/// The same, where a key of another table is told apart at once.
+#[tactic(auto, using(crate::proofs::Naming::other_ids))]
+fn is_listed<K>(key: &Key, table: Table, ids: &[Id<K>]) -> bool
+    ensures { result ≡ list_any (is_key key.now) (map (id_key table) ids.now) }
+{
+    is_of_table(key, table) && is_of_ids(key, table, ids)
 }
 
 fn is_of_ratings(key: &Key, ratings: &[(CharacteristicId, u8)]) -> bool
@@ -74,17 +89,24 @@ fn is_of_ratings(key: &Key, ratings: &[(CharacteristicId, u8)]) -> bool
     }
 }
 
+/// The same, where a key of another table is told apart at once.
+fn is_rated(key: &Key, ratings: &[(CharacteristicId, u8)]) -> bool
+    ensures { result ≡ list_any (is_key key.now) (map (λ c. id_key Characteristic c.0) ratings.now) }
+{
+    is_of_table(key, Table::Characteristic) && is_of_ratings(key, ratings)
+}
+
 /// Whether the leaf lists the key.
 #[tactic(auto, using(crate::proofs::Naming::any_of_leaf))]
 fn is_of_leaf(key: &Key, leaf: &Leaf) -> bool
     ensures { result ≡ list_any (is_key key.now) (leaf_citations leaf.now) }
 {
-    is_of_ids(key, Table::Role, leaf.roles.as_slice())
-        || is_of_ratings(key, leaf.characteristics.as_slice())
-        || is_of_ids(key, Table::Territory, leaf.territories.as_slice())
-        || is_of_ids(key, Table::Unit, leaf.units.as_slice())
-        || is_of_ids(key, Table::Resource, leaf.required.as_slice())
-        || is_of_ids(key, Table::Resource, leaf.restricted.as_slice())
+    is_listed(key, Table::Role, leaf.roles.as_slice())
+        || is_rated(key, leaf.characteristics.as_slice())
+        || is_listed(key, Table::Territory, leaf.territories.as_slice())
+        || is_listed(key, Table::Unit, leaf.units.as_slice())
+        || is_listed(key, Table::Resource, leaf.required.as_slice())
+        || is_listed(key, Table::Resource, leaf.restricted.as_slice())
 }
 
 fn is_of_some_leaf(key: &Key, leaves: &[Leaf]) -> bool
