@@ -1,7 +1,8 @@
 //! The text of each answer.
 use desk_base::{
-    Answer, BookingId, Clash, Field, Found, GroupId, Items, Key, LeafRule, Minute, Outcome, Page,
-    Picks, Position, Receipt, Refusal, Reply, ResourceId, Shown, Table, TreeRule,
+    ActCode, Answer, BookingId, CallNumber, CallerId, Clash, Field, Found, GroupId, Items, Key,
+    LeafRule, Minute, Outcome, Page, Picks, Position, Receipt, Refusal, Reply, ResourceId, Shown,
+    Summary, Table, TreeRule,
 };
 use desk_json::answer_text;
 use std::alloc::Global;
@@ -122,6 +123,63 @@ fn last_page(alloc: Global) -> Page {
         shown: None,
         end: true,
     }
+}
+
+fn summary(revision: u64, number: u32, act: ActCode) -> Result<Summary, Fail> {
+    Ok(Summary {
+        revision,
+        caller: CallerId::of(7).ok_or("no id")?,
+        number: CallNumber::of(number).ok_or("no number of a call")?,
+        pass: 18_446_744_073_709_551_615,
+        act,
+    })
+}
+
+fn journal(alloc: Global, entries: &[(u64, u32, ActCode)]) -> Result<Answer, Fail> {
+    let mut summaries = Items::new(alloc);
+    for (revision, number, act) in entries {
+        summaries.push(summary(*revision, *number, *act)?)?;
+    }
+    Ok(Answer {
+        revision: 9,
+        outcome: Outcome::Done(Reply::Journal(summaries)),
+    })
+}
+
+#[test]
+fn entries_of_the_journal_have_their_texts(rt: HostRuntime) -> Result<(), Fail> {
+    let alloc = rt.alloc();
+    let none = journal(alloc, &[])?;
+    assert!(rt; is_text_of(alloc, &none, "{\"entries\":[],\"revision\":9}"));
+    let two = journal(
+        alloc,
+        &[
+            (8, 1, ActCode::Put(Table::HasCharacteristic)),
+            (9, 4_000_000_000, ActCode::Remove(Table::Off)),
+        ],
+    )?;
+    assert!(rt;
+        is_text_of(
+            alloc,
+            &two,
+            "{\"entries\":[{\"act\":\"put_has_characteristic\",\"caller\":7,\"number\":1,\"pass\":18446744073709551615,\"revision\":8},{\"act\":\"remove_off\",\"caller\":7,\"number\":4000000000,\"pass\":18446744073709551615,\"revision\":9}],\"revision\":9}"
+        )
+    );
+    let acts = [
+        (ActCode::PutGroup, "put_group"),
+        (ActCode::DropGroup, "drop_group"),
+        (ActCode::BookGroup, "book_group"),
+        (ActCode::MoveGroup, "move_group"),
+        (ActCode::CancelGroup, "cancel_group"),
+    ];
+    for (act, name) in acts {
+        let one = journal(alloc, &[(1, 2, act)])?;
+        let text = format!(in alloc;
+            "{{\"entries\":[{{\"act\":\"{name}\",\"caller\":7,\"number\":2,\"pass\":18446744073709551615,\"revision\":1}}],\"revision\":9}}"
+        )?;
+        assert!(rt; is_text_of(alloc, &one, text.as_str()), "at {name}");
+    }
+    Ok(())
 }
 
 #[test]

@@ -1,4 +1,4 @@
-//! A body of each act, and faults of each rule.
+//! Bodies as a whole: their heads, and faults of each rule.
 use desk_base::{Act, AnyRow, Command, Field};
 use desk_json::{BodyError, BodyRule, read_change};
 use std::alloc::Global;
@@ -94,7 +94,7 @@ fn faults_of_heads_are_named(rt: HostRuntime) {
         (b"[]", BodyRule::Object, Field::Body),
         (b"{\"caller\":0}", BodyRule::Missing, Field::Act),
         (b"{\"act\":7,\"caller\":0}", BodyRule::Sort, Field::Act),
-        (b"{\"act\":\"put_off\"}", BodyRule::Range, Field::Act),
+        (b"{\"act\":\"put_booking\"}", BodyRule::Range, Field::Act),
         (
             b"{\"act\":\"cancel_group\",\"caller\":0,\"number\":0}",
             BodyRule::Range,
@@ -121,7 +121,7 @@ fn faults_of_heads_are_named(rt: HostRuntime) {
 
 #[test]
 fn faults_of_acts_are_named(rt: HostRuntime) {
-    let cases: [(&[u8], BodyRule, Field); 7] = [
+    let cases: [(&[u8], BodyRule, Field); 6] = [
         (
             b"{\"act\":\"cancel_group\",\"caller\":7,\"number\":1,\"pass\":0}",
             BodyRule::Missing,
@@ -151,11 +151,6 @@ fn faults_of_acts_are_named(rt: HostRuntime) {
             b"{\"act\":\"book_group\",\"caller\":7,\"number\":1,\"group\":1,\"start\":\"2025-01-06T08:00Z\",\"picks\":[1,\"-\"]}",
             BodyRule::Sort,
             Field::Picks,
-        ),
-        (
-            b"{\"act\":\"put_group\",\"caller\":7,\"number\":1,\"id\":1,\"name\":\"G\",\"from\":\"2025-01-06T08:00Z\",\"to\":\"2025-01-06T12:00Z\",\"step\":60,\"tree\":{\"all\":[]}}",
-            BodyRule::Range,
-            Field::Tree,
         ),
     ];
     for (body, rule, field) in cases {

@@ -9,3 +9,9 @@ mod bodies;
 mod cursors;
 #[cfg(test)]
 mod leaves;
+#[cfg(test)]
+mod rows;
+#[cfg(test)]
+mod shown;
+#[cfg(test)]
+mod trees;
