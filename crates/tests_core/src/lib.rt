@@ -2,6 +2,14 @@
 #![tactic(auto)]
 
 #[cfg(test)]
-mod relays;
+mod books;
+#[cfg(test)]
+mod changes;
+#[cfg(test)]
+mod groups;
+#[cfg(test)]
+mod lines;
+#[cfg(test)]
+mod refusals;
 #[cfg(test)]
 mod steps;

@@ -1,15 +1,14 @@
 //! Commands through `step`, one after another, and what they come to. The book is over the trial tables, and minute
 //! 28,935,840 is Monday 2025-01-06T08:00Z.
 ghost use Rattle.std.specs.Prelude.{IfOk};
-ghost use Rattle.desk_base.specs.rules.Sound.{IsSound};
-ghost use Rattle.desk_core.specs.Built.{IsServed};
+ghost use Rattle.desk_change.specs.Served.{IsServed};
 
 mod asked;
 mod told;
 
+use crate::books::{discard, opened};
 use asked::{Asked, Pages, Picked, Wanted, change, command_of, late_leaf, unit, zone};
-use desk_base::laws::trial_is_sound;
-use desk_base::{Act, CallNumber, Field, LeafRule, NoMemory, Table, Tables};
+use desk_base::{Act, CallNumber, Field, LeafRule, Table};
 use desk_core::Book;
 use std::alloc::Global;
 use std::process::Abort;
@@ -33,19 +32,6 @@ const PUT: Told = Told::Done(Given::Put);
 /// A command, what it comes to, and the revision after it.
 type Line = (Asked, Told, u64);
 
-fn trial(alloc: Global) -> Result<Tables, NoMemory>
-    ensures { IfOk result IsSound }
-{
-    trial_is_sound();
-    let tables = Tables::trial(alloc)?;
-    Ok(tables)
-}
-
-/// Lets a book go.
-fn discard(book: Book) {
-    let _ = book;
-}
-
 fn answer_to(alloc: Global, book: &mut Book, asked: Asked) -> Result<(Told, u64), Fail> {
     let command = command_of(alloc, asked)?;
     let answer = book.step(alloc, 3, &command);
@@ -63,7 +49,7 @@ fn go_through(rt: &impl Abort, alloc: Global, book: &mut Book, lines: &[Line]) -
 
 /// Goes through the lines over a book of the trial tables.
 fn go_through_trial(rt: &impl Abort, alloc: Global, lines: &[Line]) -> Result<(), Fail> {
-    let mut book = Book::over(alloc, trial(alloc)?);
+    let mut book = opened(alloc)?;
     let done = go_through(rt, alloc, &mut book, lines);
     discard(book);
     done
@@ -261,7 +247,7 @@ fn a_booking_may_end_with_the_horizon(rt: HostRuntime) -> Result<(), Fail> {
         ),
     ];
     let alloc = rt.alloc();
-    let mut book = Book::over(alloc, trial(alloc)?);
+    let mut book = opened(alloc)?;
     let done = go_through(&rt, alloc, &mut book, &lines);
     let last = last_end(&book);
     discard(book);
@@ -291,7 +277,7 @@ fn a_number_acts_once(rt: HostRuntime) -> Result<(), Fail> {
         (by(6, Wanted::Unit(5)), Told::Skipped(4), 4),
     ];
     let alloc = rt.alloc();
-    let mut book = Book::over(alloc, trial(alloc)?);
+    let mut book = opened(alloc)?;
     let done = go_through(&rt, alloc, &mut book, &lines);
     let bookings = book.tables().bookings.len();
     let units = book.tables().units.len();
@@ -430,7 +416,7 @@ fn zones(rt: &impl Abort, alloc: Global, book: &mut Book) -> Result<(), Fail> {
 #[test]
 fn zones_begin_with_the_horizon(rt: HostRuntime) -> Result<(), Fail> {
     let alloc = rt.alloc();
-    let mut book = Book::over(alloc, trial(alloc)?);
+    let mut book = opened(alloc)?;
     let done = zones(&rt, alloc, &mut book);
     discard(book);
     done
@@ -456,7 +442,7 @@ fn offsets(rt: &impl Abort, alloc: Global, book: &mut Book) -> Result<(), Fail> 
 #[test]
 fn a_leaf_with_an_offset_is_booked_later(rt: HostRuntime) -> Result<(), Fail> {
     let alloc = rt.alloc();
-    let mut book = Book::over(alloc, trial(alloc)?);
+    let mut book = opened(alloc)?;
     let done = offsets(&rt, alloc, &mut book);
     let last = last_end(&book);
     discard(book);
@@ -479,7 +465,7 @@ fn names(rt: &impl Abort, alloc: Global, book: &mut Book) -> Result<(), Fail> {
 #[test]
 fn names_have_1_to_60_bytes(rt: HostRuntime) -> Result<(), Fail> {
     let alloc = rt.alloc();
-    let mut book = Book::over(alloc, trial(alloc)?);
+    let mut book = opened(alloc)?;
     let done = names(&rt, alloc, &mut book);
     discard(book);
     done

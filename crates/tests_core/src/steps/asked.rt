@@ -1,6 +1,7 @@
 //! Commands, written as plain values.
-ghost use Rattle.std.specs.Prelude.{◌≡◌, ◌∷◌, [], IfOk};
-ghost use Rattle.desk_core.specs.Built.{HasPlainLeaf, IsBuilt, IsPlainLeaf, IsServed};
+ghost use Rattle.std.specs.Prelude.{IfOk};
+ghost use Rattle.desk_change.specs.Served.{IsServed};
+ghost use Rattle.desk_core.specs.Built.{IsBuilt};
 
 use desk_base::{
     Act, AnyRow, CalendarId, CalendarRow, Call, CallNumber, CallerId, Command, Cursor, GroupId,
@@ -132,9 +133,7 @@ fn resource(alloc: Global, id: u32, calendar: u32, unit: u32) -> Result<Act, Fai
     })))
 }
 
-fn leaf(alloc: Global, offset: u32) -> Leaf
-    ensures { IsPlainLeaf result }
-{
+fn leaf(alloc: Global, offset: u32) -> Leaf {
     Leaf {
         duration: 60,
         offset,
@@ -150,9 +149,7 @@ fn leaf(alloc: Global, offset: u32) -> Leaf
     }
 }
 
-fn one<T: Drop>(alloc: Global, item: T) -> Result<Items<T>, NoMemory>
-    ensures { IfOk result (λ it. it ≡ item ∷ []) }
-{
+fn one<T: Drop>(alloc: Global, item: T) -> Result<Items<T>, NoMemory> {
     let mut items = Items::new(alloc);
     items.push(item)?;
     Ok(items)
@@ -165,9 +162,7 @@ fn group_row(
     to: Minute,
     step: u16,
     offset: u32,
-) -> Result<GroupRow, NoMemory>
-    ensures { IfOk result HasPlainLeaf }
-{
+) -> Result<GroupRow, NoMemory> {
     let node = Node {
         depth: 0,
         kind: NodeKind::Leaf,

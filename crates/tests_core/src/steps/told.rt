@@ -135,6 +135,7 @@ pub fn what_was_told(answer: &Answer) -> (Told, u64) {
     let told = match &answer.outcome {
         Outcome::Done(Reply::Change(receipt)) => Told::Done(what_was_given(receipt)),
         Outcome::Done(Reply::Rows(page)) => told_of_page(page),
+        Outcome::Done(Reply::Journal(_)) => Told::Other,
         Outcome::Done(Reply::Revision) => Told::Revision,
         Outcome::Repeated(receipt) => Told::Repeated(what_was_given(receipt)),
         Outcome::Refused(refusal) => told_of_refusal(refusal),

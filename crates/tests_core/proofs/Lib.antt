@@ -1,2 +1,0 @@
--- That the tables of the tests are sound.
-mod RelaysSound

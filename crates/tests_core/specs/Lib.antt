@@ -1,2 +1,0 @@
--- What the tests say of the tables that they make.
-pub mod Relays
