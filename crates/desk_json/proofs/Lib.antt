@@ -13,6 +13,7 @@ mod EachRead
 mod NamesAmong
 mod NamesBehind
 mod TableRows
+mod RowKeys
 mod DayReadings
 mod TreeSteps
 mod ParsedBodies

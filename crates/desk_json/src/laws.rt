@@ -5,6 +5,10 @@ ghost use Rattle.serde_json.specs.Written.{compact_text};
 ghost use Rattle.desk_base.specs.declared.search.results.Cursor.{Cursor};
 ghost use Rattle.desk_base.specs.declared.search.results.Page.{Page};
 ghost use Rattle.desk_base.specs.declared.asked.answers.Command.{Command};
+ghost use Rattle.desk_base.specs.declared.rows.tables.Table.{Table};
+ghost use Rattle.desk_base.specs.declared.rows.tables.AnyRow.{AnyRow};
+ghost use Rattle.desk_base.specs.rows.Rows.{key_of};
+ghost use Rattle.desk_json.specs.Tables.{described, row_form, key_form};
 ghost use Rattle.desk_json.specs.Cursors.{cursor_text};
 ghost use Rattle.desk_json.specs.CursorReading.{IsCursor};
 ghost use Rattle.desk_json.specs.Pages.{page_data};
@@ -32,4 +36,9 @@ pub fn texts_have_one_page()
 /// rating for a characteristic alone.
 pub fn changes_are_of_listed_forms()
     ensures { (d : Data) (c : Command) → change_in d ≡ Ok c → IsAsked c }
+{}
+
+/// The row that an object puts into a table stands under the key that the same object names there.
+pub fn rows_stand_under_their_keys()
+    ensures { (t : Table) (d : Data) (row : AnyRow) → (row_form (described t)).read d ≡ Ok row → (key_form t).read d ≡ Ok (key_of row) }
 {}
