@@ -6,6 +6,7 @@
 mod follow;
 mod groups;
 mod opened;
+mod spare;
 mod turns;
 
 ghost use Rattle.std.specs.Prelude.{◌≡◌, IfOk, IfErr};
