@@ -15,6 +15,7 @@ pub mod Probing
 pub mod Raised
 pub mod Reading
 pub mod Relisted
+pub mod Renumbered
 pub mod Reweighed
 pub mod RoomLemmas
 pub mod Scanned
@@ -22,6 +23,7 @@ pub mod Standing
 pub mod StartLemmas
 pub mod Staying
 pub mod TakenBack
+pub mod Ungrouped
 pub mod Used
 pub mod Weighed
 pub mod Whole
