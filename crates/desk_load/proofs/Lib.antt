@@ -17,6 +17,7 @@ pub mod Reading
 pub mod Relisted
 pub mod Renumbered
 pub mod Reweighed
+pub mod Resourced
 pub mod RoomLemmas
 pub mod Scanned
 pub mod Standing

@@ -1,9 +1,9 @@
 -- Rows, lists and weights by numbers, of which one more or one less is there.
-use Rattle.std.proofs.Common.{◌≡◌, ℕ, zero, suc, ◌+◌, ◌<◌, ◌≤◌, Bool, true, false, cond, ◌||◌, ◌==◌, nat_lt, List, [], ◌∷◌, ◌++◌, map, length, get_or, take, drop, ◌⊎◌, inl, inr, refl, sym, ap, ◌∙◌, subst, arith}
+use Rattle.std.proofs.Common.{◌≡◌, ℕ, zero, suc, ◌+◌, ◌<◌, ◌≤◌, Bool, true, false, cond, ◌||◌, ◌==◌, nat_lt, List, [], ◌∷◌, ◌++◌, map, length, get_or, take, drop, None, ◌⊎◌, inl, inr, refl, sym, ap, ◌∙◌, subst, arith}
 use Rattle.std.proofs.lemmas.Bool.{false≢true}
 use Rattle.std.proofs.lemmas.Bool.Decides.{nat_tests}
 use Rattle.std.proofs.lemmas.List.{map-append}
-use Rattle.std.specs.Prelude.{filter}
+use Rattle.std.specs.Prelude.{filter, find}
 use Rattle.std.specs.Ordering.{nat_cmp}
 use Rattle.std.specs.List.{list_any, insert, remove}
 use Rattle.std.specs.List.Sorted.{IsStrictlySortedBy, IsPartitionPoint}
@@ -21,6 +21,7 @@ use Rattle.desk_load.specs.declared.lists.BookingList.{BookingList}
 use Rattle.desk_load.specs.Lists.{lists_of}
 use Rattle.desk_load.proofs.Numbers.{filter_same, map_map, map_itself}
 use Rattle.desk_load.proofs.Grouped.{numbers_with, map_filter, sorted_filter, less_trans, not_over, is_under, not_itself, after_point, equal, list_of}
+use Rattle.desk_load.proofs.Following.{found_none}
 use Rattle.desk_load.proofs.OneBooking.{then_lt, lt_is}
 
 -- ---- numbers
@@ -123,17 +124,47 @@ module _ {A : Type 0} (f : A → ℕ) (n : ℕ) (xs : List A) (at : ℕ) (d : A)
       let b = map_filter f (λ k. nat_lt n k) xs in
       ap (map f) (removed_is f n xs at d l s e) ∙ map-append f (filter (λ x. nat_lt (f x) n) xs) (filter (λ x. nat_lt n (f x)) xs) ∙ (λ i. a i ++ b i)
 
-  not_same : (a b : ℕ) → nat_lt a b ≡ true → (a == b) ≡ false
-  not_same a b g = grind (arith, nat_tests)
+low_other : (a b : ℕ) → nat_lt a b ≡ true → (a == b) ≡ false
+low_other a b g = grind (arith, nat_tests)
 
-  not_same_over : (a b : ℕ) → nat_lt b a ≡ true → (a == b) ≡ false
-  not_same_over a b g = grind (arith, nat_tests)
+high_other : (a b : ℕ) → nat_lt b a ≡ true → (a == b) ≡ false
+high_other a b g = grind (arith, nat_tests)
 
-  pub in-removed : (y : A) → IsIn y (remove xs at) → IsIn y xs × ((f y == n) ≡ false)
-  in-removed y i = elim (in-append y (filter (λ x. nat_lt (f x) n) xs) (filter (λ x. nat_lt n (f x)) xs) (subst (IsIn y) (removed_is f n xs at d l s e) i)) [
-    | inl j ↦ (let g = in-filter (λ x. nat_lt (f x) n) y xs j in (g.0, not_same (f y) n g.1))
-    | inr j ↦ (let g = in-filter (λ x. nat_lt n (f x)) y xs j in (g.0, not_same_over (f y) n g.1))
-  ]
+-- what is on either side of a number is of another
+pub in-off : {A : Type 0} (f : A → ℕ) (n : ℕ) (xs : List A) (y : A) → IsIn y (filter (λ x. nat_lt (f x) n) xs ++ filter (λ x. nat_lt n (f x)) xs) → IsIn y xs × ((f y == n) ≡ false)
+in-off f n xs y i = elim (in-append y (filter (λ x. nat_lt (f x) n) xs) (filter (λ x. nat_lt n (f x)) xs) i) [
+  | inl j ↦ (let g = in-filter (λ x. nat_lt (f x) n) y xs j in (g.0, low_other (f y) n g.1))
+  | inr j ↦ (let g = in-filter (λ x. nat_lt n (f x)) y xs j in (g.0, high_other (f y) n g.1))
+]
+
+pub off_numbers : {A : Type 0} (f : A → ℕ) (n : ℕ) (xs : List A) → map f (filter (λ x. nat_lt (f x) n) xs ++ filter (λ x. nat_lt n (f x)) xs) ≡ numbers_without n (map f xs)
+off_numbers f n xs =
+    let a = map_filter f (λ k. nat_lt k n) xs in
+    let b = map_filter f (λ k. nat_lt n k) xs in
+    map-append f (filter (λ x. nat_lt (f x) n) xs) (filter (λ x. nat_lt n (f x)) xs) ∙ (λ i. a i ++ b i)
+
+pub with_numbers : {A : Type 0} (f : A → ℕ) (n : ℕ) (x : A) (xs : List A) → f x ≡ n → map f (filter (λ x. nat_lt (f x) n) xs ++ x ∷ filter (λ x. nat_lt n (f x)) xs) ≡ numbers_with n (map f xs)
+with_numbers f n x xs e =
+    let a = map_filter f (λ k. nat_lt k n) xs in
+    let b = map_filter f (λ k. nat_lt n k) xs in
+    map-append f (filter (λ x. nat_lt (f x) n) xs) (x ∷ filter (λ x. nat_lt n (f x)) xs) ∙ (λ i. a i ++ e i ∷ b i)
+
+pub lists_off : (f : BookingRow → ℕ) (n : ℕ) (ns : List ℕ) (bs : List BookingRow) → filter (λ (l : BookingList). nat_lt l.number n) (lists_of f ns bs) ++ filter (λ (l : BookingList). nat_lt n l.number) (lists_of f ns bs) ≡ lists_of f (numbers_without n ns) bs
+lists_off f n ns bs =
+    let a = sym (map_filter (list_of f bs) (λ (l : BookingList). nat_lt l.number n) ns) in
+    let b = sym (map_filter (list_of f bs) (λ (l : BookingList). nat_lt n l.number) ns) in
+    (λ i. a i ++ b i) ∙ sym (map-append (list_of f bs) (filter (λ k. nat_lt k n) ns) (filter (λ k. nat_lt n k) ns))
+
+pub lists_with : (f : BookingRow → ℕ) (n : ℕ) (ns : List ℕ) (bs : List BookingRow) → filter (owns f n) bs ≡ [] → filter (λ (l : BookingList). nat_lt l.number n) (lists_of f ns bs) ++ record { number = n; bookings = [] } ∷ filter (λ (l : BookingList). nat_lt n l.number) (lists_of f ns bs) ≡ lists_of f (numbers_with n ns) bs
+lists_with f n ns bs none =
+    let a = sym (map_filter (list_of f bs) (λ (l : BookingList). nat_lt l.number n) ns) in
+    let b = sym (map_filter (list_of f bs) (λ (l : BookingList). nat_lt n l.number) ns) in
+    (λ i. a i ++ record { number = n; bookings = sym none i } ∷ b i) ∙ sym (map-append (list_of f bs) (filter (λ k. nat_lt k n) ns) (n ∷ filter (λ k. nat_lt n k) ns))
+
+-- the same of a place that holds the number, whatever stands for none
+pub removed_off : {A : Type 0} (f : A → ℕ) (n : ℕ) (xs : List A) (at : ℕ) → at < length xs → IsStrictlySortedBy nat_cmp (map f xs) → ((d : A) → f (get_or xs at d) ≡ n) → remove xs at ≡ filter (λ x. nat_lt (f x) n) xs ++ filter (λ x. nat_lt n (f x)) xs
+removed_off f n [] at l s e = absurd (omega arith)
+removed_off f n (x ∷ xs) at l s e = removed_is f n (x ∷ xs) at x l s (e x)
 
 -- the lists of numbers without the one at a place
 pub lists_removed : (f : BookingRow → ℕ) (n : ℕ) (ns : List ℕ) (bs : List BookingRow) (lists : List BookingList) (at : ℕ) (d : BookingList) → lists ≡ lists_of f ns bs → IsStrictlySortedBy nat_cmp (map (λ (l : BookingList). l.number) lists) → at < length lists → (get_or lists at d).number ≡ n → remove lists at ≡ lists_of f (numbers_without n ns) bs
@@ -141,6 +172,18 @@ lists_removed f n ns bs lists at d e s l g =
     let a = ap (filter (λ (l : BookingList). nat_lt l.number n)) e ∙ sym (map_filter (list_of f bs) (λ (l : BookingList). nat_lt l.number n) ns) in
     let b = ap (filter (λ (l : BookingList). nat_lt n l.number)) e ∙ sym (map_filter (list_of f bs) (λ (l : BookingList). nat_lt n l.number) ns) in
     removed_is (λ (l : BookingList). l.number) n lists at d l s g ∙ (λ i. a i ++ b i) ∙ sym (map-append (list_of f bs) (filter (λ k. nat_lt k n) ns) (filter (λ k. nat_lt n k) ns))
+
+-- where none is found, each has another number
+pub absent_number : {A : Type 0} (f : A → ℕ) (n : ℕ) (xs : List A) → find (owns f n) xs ≡ None → (y : A) → IsIn y xs → (f y == n) ≡ false
+absent_number {A} f n xs e y i = by (f y == n) refl
+  where
+    by : (b : Bool) → (f y == n) ≡ b → b ≡ false
+    by false g = refl
+    by true g = absurd (found_none (owns f n) xs y e i g)
+
+pub none_there : {A : Type 0} (xs : List A) → length xs ≡ 0 → xs ≡ []
+none_there [] e = refl
+none_there (x ∷ xs) e = absurd (omega (arith, e))
 
 -- rows with one more at the point
 pub inserted_is : {A : Type 0} (f : A → ℕ) (n : ℕ) (xs : List A) (at : ℕ) (x : A) → at ≤ length xs → IsPartitionPoint (λ y. nat_lt (f y) n ≡ true) (λ y. nat_lt (f y) n ≡ false) xs at → ((y : A) → IsIn y xs → (f y == n) ≡ false) → insert xs at x ≡ filter (λ y. nat_lt (f y) n) xs ++ x ∷ filter (λ y. nat_lt n (f y)) xs

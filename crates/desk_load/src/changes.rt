@@ -6,6 +6,7 @@
 mod follow;
 mod groups;
 mod opened;
+mod resources;
 mod spare;
 mod turns;
 

@@ -44,6 +44,7 @@ pub(crate) enum Phase {
 enum Named {
     Booking(BookingId),
     Group(u32),
+    Resource(u32),
 }
 
 /// What may stand under a key of one number; `None` for the key of another table, and where nothing may.
@@ -59,6 +60,7 @@ fn named_by(key: &Key) -> Option<Named>
             None => None,
         },
         Table::Group => Some(Named::Group(key.a)),
+        Table::Resource => Some(Named::Resource(key.a)),
         _ => None,
     }
 }
@@ -131,31 +133,35 @@ impl OpenIndex {
         Ok(())
     }
 
-    /// Takes a booking or a group out, where it stands.
+    /// Takes a booking, a group or a resource out, where it stands.
     fn take_out_named(
         &mut self,
         alloc: Global,
         tables: &Tables,
         named: Named,
-    ) -> Result<Phase, NoMemory>
+    ) -> Result<Phase, Stop>
         requires well_formed { AreWellFormed tables.now }
         requires stage { (s : Tables) × ((more : ℕ) × IsStage tables.now s 0 more (parts_of self.old)) }
         ensures out { IfOk result (λ p. (s : Tables) (more : ℕ) → IsStage tables.now s 0 more (parts_of self.old) → IsPhase tables.now (without_key s (key_of_named named)) p more (parts_of self.new)) }
         ensures before { before_of self.new ≡ before_of self.old }
     {
         match named {
-            Named::Booking(id) => {
-                self.take_out(alloc, tables, 0, id)?;
-                Ok(Phase::Open(0))
-            }
-            Named::Group(number) => {
-                self.take_out_group(alloc, number)?;
+            Named::Booking(id) => match self.take_out(alloc, tables, 0, id) {
+                Ok(()) => Ok(Phase::Open(0)),
+                Err(NoMemory) => Err(Stop::NoMemory),
+            },
+            Named::Group(number) => match self.take_out_group(alloc, number) {
+                Ok(()) => Ok(Phase::Closed),
+                Err(NoMemory) => Err(Stop::NoMemory),
+            },
+            Named::Resource(number) => {
+                self.take_out_resource(alloc, tables, number)?;
                 Ok(Phase::Closed)
             }
         }
     }
 
-    /// Takes the row of a key out, where that is a booking, a group or not indexed.
+    /// Takes the row of a key out, where that is a booking, a group, a resource or not indexed.
     fn take_out_key(
         &mut self,
         alloc: Global,
@@ -177,13 +183,10 @@ impl OpenIndex {
         let Some(named) = named_by(key) else {
             return Err(Stop::Unfollowed);
         };
-        match self.take_out_named(alloc, tables, named) {
-            Ok(phase) => Ok(phase),
-            Err(NoMemory) => Err(Stop::NoMemory),
-        }
+        self.take_out_named(alloc, tables, named)
     }
 
-    /// Puts a row that is a group, a booking, or not indexed.
+    /// Puts a row that is a group, a resource, a booking, or not indexed.
     #[tactic(auto, using(crate::proofs::Numbers::keys_climb))]
     fn put_open(
         &mut self,
@@ -215,6 +218,13 @@ impl OpenIndex {
                     Ok(()) => Ok(Phase::Open(0)),
                     Err(NoMemory) => Err(Stop::NoMemory),
                 }
+            }
+            AnyRow::Resource(resource) => {
+                if next != 0 {
+                    return Err(Stop::Unfollowed);
+                }
+                self.put_resource(alloc, tables, resource)?;
+                Ok(Phase::Closed)
             }
             _ => {
                 if is_indexed(row.key().table) {

@@ -4,6 +4,7 @@ use Rattle.desk_base.specs.declared.rows.tables.AnyRow.TheVariants.{Booking, Gro
 use Rattle.desk_base.specs.changes.Changes.{with_row}
 use Rattle.desk_load.specs.Effects.{is_indexed}
 use Rattle.desk_load.specs.Changed.{parts_of}
+use Rattle.desk_load.specs.Index.{IsIndexOf}
 use Rattle.desk_load.specs.Stages.{IsStage}
 use Rattle.desk_load.proofs.Keeping.{keep_in}
 use Rattle.desk_load.proofs.Following.{stage_kept, stage_fewer}
@@ -35,3 +36,13 @@ returns-in-Ok-put_group-clause-put c s more h =
     let g = c.in-Group.group in
     subst (λ row. IsStage t (with_row s row) 0 more new) (sym c.in-Group.is)
     (stage_fewer t (with_row s (Group g)) 0 more new (c.in-Ok-put_group.ensures.put s (suc more) (subst (λ n. IsStage t s n (suc more) (parts_of c.args.self.now)) e h)))
+
+pub returns-in_ok-put_resource-in-Resource-clause-put : goal.returns-in_ok-put_resource-in-Resource-clause-put
+returns-in_ok-put_resource-in-Resource-clause-put c s more h =
+    let z = c.if-next-ne0-2.false in
+    let e : ◌≡◌ {A = ℕ} c.args.next 0 = omega (arith, z) in
+    let a = c.in_ok-put_resource-in-Resource.ensures in
+    (
+      subst (λ row. IsIndexOf (with_row s row) (parts_of c.put_resource.new.self)) (sym c.in-Resource.is) (a.index s (suc more) (subst (λ n. IsStage c.args.tables.now s n (suc more) (parts_of c.args.self.now)) e h)),
+      a.order,
+    )
