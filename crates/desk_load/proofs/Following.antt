@@ -298,15 +298,6 @@ pub phase_kept : (t s u : Tables) (p : Phase) (more : ℕ) (i : IndexParts) → 
 phase_kept t s u (Open next) more i k h = stage_kept t s u next more i k h
 phase_kept t s u Closed more i k h = (index_kept s u i k h.0, h.1)
 
--- what a change was followed to is an index in order
-pub phase_index : (t s : Tables) (p : Phase) (more : ℕ) (i : IndexParts) → IsPhase t s p more i → IsIndexOf s i
-phase_index t s (Open next) more i h = h.index
-phase_index t s Closed more i h = h.0
-
-pub phase_order : (t s : Tables) (p : Phase) (more : ℕ) (i : IndexParts) → IsPhase t s p more i → IsOrdered i
-phase_order t s (Open next) more i h = h.order
-phase_order t s Closed more i h = h.1
-
 pub stage_fewer : (t s : Tables) (next more : ℕ) (i : IndexParts) → IsStage t s next (suc more) i → IsStage t s next more i
 stage_fewer t s next more i h = record {
   resources = h.resources;

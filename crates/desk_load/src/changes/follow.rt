@@ -1,5 +1,5 @@
-//! Changes whose indexed rows are bookings, and groups that are put before them: an index follows them row by row, and nothing
-//! else of it is touched.
+//! Changes that an index follows row by row: bookings that are taken out and put, groups that are put before them, and at last a
+//! group that is taken out, or a resource that is put or taken out. Nothing else of it is touched.
 ghost use Rattle.std.specs.Prelude.{◌≡◌, ◌==◌, ℕ, suc, true, ◌≤◌, length, find, IfOk, OnOk, IfSome};
 ghost use Rattle.std.specs.Option.{option_copied};
 ghost use Rattle.desk_base.specs.declared.rows.tables.Tables.{Tables};
@@ -26,7 +26,8 @@ use std::alloc::Global;
 pub(crate) enum Stop {
     /// Memory was not found.
     NoMemory,
-    /// It changes more than bookings and groups that are put before them, or puts bookings in another order than that of their numbers.
+    /// It changes memberships or what a resource is, takes out a resource on which something stands, puts bookings in another
+    /// order than that of their numbers, or changes something behind a row that must be the last.
     Unfollowed,
 }
 
@@ -301,7 +302,8 @@ impl OpenIndex {
         Ok(())
     }
 
-    /// Follows a change whose indexed rows are bookings, put in the order of their numbers, and groups that are put before them.
+    /// Follows a change whose indexed rows are bookings, put in the order of their numbers, groups that are put before them, and at
+    /// last a group that is taken out, or a resource.
     pub(crate) fn follow(
         &mut self,
         alloc: Global,

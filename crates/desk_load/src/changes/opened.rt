@@ -170,7 +170,8 @@ impl OpenIndex {
         let spare = Spare::of(alloc, self.weights.len())?;
         self.formers.reserve(1)?;
         let former = self.weights.remove(at);
-        self.formers.push_reserved(Former::RemovedWeight(at, former, spare));
+        self.formers
+            .push_reserved(Former::RemovedWeight(at, former, spare));
         Ok(())
     }
 
@@ -183,7 +184,8 @@ impl OpenIndex {
         let spare = Spare::of(alloc, self.standing.len())?;
         self.formers.reserve(1)?;
         let former = self.standing.remove(at);
-        self.formers.push_reserved(Former::RemovedStanding(at, former, spare));
+        self.formers
+            .push_reserved(Former::RemovedStanding(at, former, spare));
         Ok(())
     }
 
@@ -196,7 +198,8 @@ impl OpenIndex {
         let spare = Spare::of(alloc, self.booked.len())?;
         self.formers.reserve(1)?;
         let former = self.booked.remove(at);
-        self.formers.push_reserved(Former::RemovedBooked(at, former, spare));
+        self.formers
+            .push_reserved(Former::RemovedBooked(at, former, spare));
         Ok(())
     }
 

@@ -46,7 +46,10 @@ impl<T: Drop> Spare<T> {
         requires room { length rows.old.items < self }
         ensures { rows.new.items ≡ insert rows.old.items at row }
     {
-        let Spare { rows: mut all, count: _ } = self;
+        let Spare {
+            rows: mut all,
+            count: _,
+        } = self;
         all.append(rows).unwrap();
         all.insert(at, row).unwrap();
         let _emptied = mem::replace(rows, all);

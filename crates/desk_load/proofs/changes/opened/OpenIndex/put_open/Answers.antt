@@ -41,8 +41,7 @@ pub returns-in_ok-put_resource-in-Resource-clause-put : goal.returns-in_ok-put_r
 returns-in_ok-put_resource-in-Resource-clause-put c s more h =
     let z = c.if-next-ne0-2.false in
     let e : ◌≡◌ {A = ℕ} c.args.next 0 = omega (arith, z) in
-    let a = c.in_ok-put_resource-in-Resource.ensures in
-    (
+    let a = c.in_ok-put_resource-in-Resource.ensures in (
       subst (λ row. IsIndexOf (with_row s row) (parts_of c.put_resource.new.self)) (sym c.in-Resource.is) (a.index s (suc more) (subst (λ n. IsStage c.args.tables.now s n (suc more) (parts_of c.args.self.now)) e h)),
       a.order,
     )
