@@ -84,7 +84,7 @@ module _ {A : Type 0} (p q : A → Bool) (h : (x : A) → p x ≡ true → q x �
   any_alike : (xs ys : List A) → filter q ys ≡ filter q xs → list_any p ys ≡ list_any p xs
   any_alike xs ys e = sym (any_passed ys) ∙ ap (list_any p) e ∙ any_passed xs
 
-  found_alike : (xs ys : List A) → filter q ys ≡ filter q xs → find p ys ≡ find p xs
+  pub found_alike : (xs ys : List A) → filter q ys ≡ filter q xs → find p ys ≡ find p xs
   found_alike xs ys e = sym (found_passed ys) ∙ ap (find p) e ∙ found_passed xs
 
   rows_alike : (xs ys : List A) → filter q ys ≡ filter q xs → filter p ys ≡ filter p xs

@@ -99,7 +99,7 @@ module _ {R : Type 0} (any : R → AnyRow) where
   above_stays k rows = all_pass (other k) (rows_above (λ y. key_of (any y)) k rows) (λ y i. above_is_other k (key_of (any y)) (in-filter (λ y. is_below k (key_of (any y))) y rows i).1)
 
   -- a row more or fewer leaves those beside it
-  beside_put : (x : R) (rows : List R) → IsStrictlySortedBy key_cmp (keys_by any rows) → rows_beside any (key_of (any x)) (with_one (λ y. key_of (any y)) x rows) ≡ rows_beside any (key_of (any x)) rows
+  pub beside_put : (x : R) (rows : List R) → IsStrictlySortedBy key_cmp (keys_by any rows) → rows_beside any (key_of (any x)) (with_one (λ y. key_of (any y)) x rows) ≡ rows_beside any (key_of (any x)) rows
   unfolding with_one
   beside_put x rows s =
       let k = key_of (any x) in
@@ -110,7 +110,7 @@ module _ {R : Type 0} (any : R → AnyRow) where
       ∙ ap (λ l. below ++ l) (above_stays k rows)
       ∙ parted k rows s
 
-  beside_taken : (k : Key) (rows : List R) → IsStrictlySortedBy key_cmp (keys_by any rows) → rows_beside any k (without_one (λ y. key_of (any y)) k rows) ≡ rows_beside any k rows
+  pub beside_taken : (k : Key) (rows : List R) → IsStrictlySortedBy key_cmp (keys_by any rows) → rows_beside any k (without_one (λ y. key_of (any y)) k rows) ≡ rows_beside any k rows
   unfolding without_one
   beside_taken k rows s =
       filter-append (other k) (rows_below (λ y. key_of (any y)) k rows) (rows_above (λ y. key_of (any y)) k rows)

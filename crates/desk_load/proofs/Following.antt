@@ -42,7 +42,9 @@ use Rattle.desk_load.specs.Lists.{lists_of, list_under}
 use Rattle.desk_load.specs.Parts.{IsAskable}
 use Rattle.desk_load.specs.Changed.{IsOrdered}
 use Rattle.desk_load.specs.Turns.{turned, value_under, relisted, IsTurned}
-use Rattle.desk_load.specs.Stages.{IsUsable, IsStage, most_bookings}
+use Rattle.desk_load.specs.declared.changes.follow.Phase.{Phase}
+use Rattle.desk_load.specs.declared.changes.follow.Phase.TheVariants.{Open, Closed}
+use Rattle.desk_load.specs.Stages.{IsUsable, IsStage, IsPhase, most_bookings}
 use Rattle.desk_load.proofs.Numbers.{keys_climb}
 use Rattle.desk_load.proofs.Keeping.{load_same, weight_same, index_kept}
 use Rattle.desk_load.proofs.Reading.{under}
@@ -291,6 +293,10 @@ stage_kept t s u next more i k h = record {
   index = index_kept s u i k h.index;
   order = h.order;
 }
+
+pub phase_kept : (t s u : Tables) (p : Phase) (more : ℕ) (i : IndexParts) → KeepIndexed s u → IsPhase t s p more i → IsPhase t u p more i
+phase_kept t s u (Open next) more i k h = stage_kept t s u next more i k h
+phase_kept t s u Closed more i k h = (index_kept s u i k h.0, h.1)
 
 pub stage_fewer : (t s : Tables) (next more : ℕ) (i : IndexParts) → IsStage t s next (suc more) i → IsStage t s next more i
 stage_fewer t s next more i h = record {

@@ -49,7 +49,7 @@ group_key g = key_of (Group g)
 abbrev pub numbers_with : ℕ → List ℕ → List ℕ
 numbers_with n ns = filter (λ k. nat_lt k n) ns ++ n ∷ filter (λ k. nat_lt n k) ns
 
-map_filter : {A B : Type 0} (f : A → B) (p : B → Bool) (xs : List A) → map f (filter (λ x. p (f x)) xs) ≡ filter p (map f xs)
+pub map_filter : {A B : Type 0} (f : A → B) (p : B → Bool) (xs : List A) → map f (filter (λ x. p (f x)) xs) ≡ filter p (map f xs)
 map_filter f p [] = refl
 map_filter f p (x ∷ xs) = step (p (f x)) (map_filter f p xs)
   where
@@ -70,25 +70,25 @@ numbers_of g gs =
     let d = ap (map (λ (y : GroupRow). y.id)) b ∙ map_filter (λ (y : GroupRow). y.id) (λ k. nat_lt g.id k) gs in
     map-append (λ (y : GroupRow). y.id) (rows_below group_key (group_key g) gs) (g ∷ rows_above group_key (group_key g) gs) ∙ (λ i. c i ++ g.id ∷ d i)
 
-is_under : (a b : ℕ) → nat_cmp a b ≡ Less → nat_lt a b ≡ true
+pub is_under : (a b : ℕ) → nat_cmp a b ≡ Less → nat_lt a b ≡ true
 is_under a b e = grind (arith, nat_tests)
 
-not_over : (a b : ℕ) → nat_cmp a b ≡ Less → nat_lt b a ≡ false
+pub not_over : (a b : ℕ) → nat_cmp a b ≡ Less → nat_lt b a ≡ false
 not_over a b e = grind (arith, nat_tests)
 
-not_itself : (a : ℕ) → nat_lt a a ≡ false
+pub not_itself : (a : ℕ) → nat_lt a a ≡ false
 not_itself a = grind (arith, nat_tests)
 
-equal : (a b : ℕ) → (a == b) ≡ true → a ≡ b
+pub equal : (a b : ℕ) → (a == b) ≡ true → a ≡ b
 equal a b e = grind (arith, nat_tests)
 
-same : (a b : ℕ) → a ≡ b → (a == b) ≡ true
+pub same : (a b : ℕ) → a ≡ b → (a == b) ≡ true
 same a b e = grind (arith, nat_tests)
 
-less_is : (a b : ℕ) → nat_lt a b ≡ true → nat_cmp a b ≡ Less
+pub less_is : (a b : ℕ) → nat_lt a b ≡ true → nat_cmp a b ≡ Less
 less_is a b e = grind (arith, nat_tests)
 
-named_in : (n : ℕ) (ns : List ℕ) → list_any (λ k. k == n) ns ≡ true → IsIn n ns
+pub named_in : (n : ℕ) (ns : List ℕ) → list_any (λ k. k == n) ns ≡ true → IsIn n ns
 named_in n [] e = absurd (false≢true e)
 named_in n (k ∷ ks) e = step (k == n) refl e (named_in n ks)
   where
@@ -110,7 +110,7 @@ numbers_stay n (k ∷ ks) s (inr i) =
     let upper = ap (λ c. cond c (k ∷ filter (λ j. nat_lt n j) ks) (filter (λ j. nat_lt n j) ks)) (not_over k n under) in
     (λ i. lower i ++ n ∷ upper i) ∙ ap (λ l. k ∷ l) (numbers_stay n ks s.1 i)
 
-sorted_filter : (p : ℕ → Bool) (ns : List ℕ) → IsStrictlySortedBy nat_cmp ns → IsStrictlySortedBy nat_cmp (filter p ns)
+pub sorted_filter : (p : ℕ → Bool) (ns : List ℕ) → IsStrictlySortedBy nat_cmp ns → IsStrictlySortedBy nat_cmp (filter p ns)
 unfolding IsStrictlySortedBy
 sorted_filter p [] s = tt
 sorted_filter p (k ∷ ks) s = step (p k) (sorted_filter p ks s.1)
@@ -119,7 +119,7 @@ sorted_filter p (k ∷ ks) s = step (p k) (sorted_filter p ks s.1)
     step false r = r
     step true r = (all_from (λ j. nat_cmp k j ≡ Less) (filter p ks) (λ j i. all_at (λ m. nat_cmp k m ≡ Less) ks j s.0 (in-filter p j ks i).0), r)
 
-less_trans : (a b c : ℕ) → nat_lt a b ≡ true → nat_lt b c ≡ true → nat_cmp a c ≡ Less
+pub less_trans : (a b c : ℕ) → nat_lt a b ≡ true → nat_lt b c ≡ true → nat_cmp a c ≡ Less
 less_trans a b c e f = grind (arith, nat_tests)
 
 pub numbers_rise_with : (n : ℕ) (ns : List ℕ) → IsStrictlySortedBy nat_cmp ns → IsStrictlySortedBy nat_cmp (numbers_with n ns)
@@ -164,7 +164,7 @@ over_not : (a n : ℕ) → nat_lt a n ≡ true → nat_lt n a ≡ false
 over_not a n e = grind (arith, nat_tests)
 
 -- the rows from the point on, where none has the number
-after_point : {A : Type 0} (f : A → ℕ) (n : ℕ) (xs : List A) (at : ℕ) → at ≤ length xs → IsPartitionPoint (λ y. nat_lt (f y) n ≡ true) (λ y. nat_lt (f y) n ≡ false) xs at → ((x : A) → IsIn x xs → (f x == n) ≡ false) → drop at xs ≡ filter (λ y. nat_lt n (f y)) xs
+pub after_point : {A : Type 0} (f : A → ℕ) (n : ℕ) (xs : List A) (at : ℕ) → at ≤ length xs → IsPartitionPoint (λ y. nat_lt (f y) n ≡ true) (λ y. nat_lt (f y) n ≡ false) xs at → ((x : A) → IsIn x xs → (f x == n) ≡ false) → drop at xs ≡ filter (λ y. nat_lt n (f y)) xs
 after_point f n [] zero l p o = refl
 after_point f n [] (suc at) l p o = refl
 after_point {A} f n (x ∷ xs) zero l p o =
@@ -179,7 +179,7 @@ after_point f n (x ∷ xs) (suc at) l p o =
     after_point f n xs at (omega arith) ((λ k d a b. p.0 (suc k) d (omega arith) (omega arith)), (λ k d a b. p.1 (suc k) d (omega arith) (omega arith))) (λ y i. o y (inr i))
     ∙ sym (ap (λ b. cond b (x ∷ filter (λ y. nat_lt n (f y)) xs) (filter (λ y. nat_lt n (f y)) xs)) (over_not (f x) n e))
 
-abbrev list_of : (BookingRow → ℕ) → List BookingRow → ℕ → BookingList
+abbrev pub list_of : (BookingRow → ℕ) → List BookingRow → ℕ → BookingList
 list_of f bs n = record { number = n; bookings = filter (owns f n) bs }
 
 -- the lists with an empty one at the point
@@ -223,7 +223,7 @@ module _ (t s : Tables) (more : ℕ) (i j : IndexParts) (g : GroupRow) (h : IsSt
         );
       }
 
-listed_numbers : (s : Tables) (lists : List BookingList) → lists ≡ lists_of (λ (b : BookingRow). b.group) (group_numbers s) s.bookings → map (λ (l : BookingList). l.number) lists ≡ group_numbers s
+pub listed_numbers : (s : Tables) (lists : List BookingList) → lists ≡ lists_of (λ (b : BookingRow). b.group) (group_numbers s) s.bookings → map (λ (l : BookingList). l.number) lists ≡ group_numbers s
 listed_numbers s lists e = ap (map (λ (l : BookingList). l.number)) e ∙ map_map (λ (l : BookingList). l.number) (list_of (λ (b : BookingRow). b.group) s.bookings) (group_numbers s) ∙ map_itself (group_numbers s)
 
 -- a group that stands is put again
@@ -234,7 +234,7 @@ group_stands t s more i g h l f =
     let rise : IsStrictlySortedBy nat_cmp (group_numbers s) = subst (IsStrictlySortedBy nat_cmp) numbers h.order.2 in
     regrouped t s more i i g h refl refl refl (h.index.booked ∙ ap (λ ns. lists_of (λ (b : BookingRow). b.group) ns s.bookings) (sym (numbers_stay g.id (group_numbers s) rise (named_in g.id (group_numbers s) there))))
 
-other_number : (f : BookingList → ℕ) (n : ℕ) (xs : List BookingList) (x : BookingList) → find (owns f n) xs ≡ None → IsIn x xs → (b : Bool) → (f x == n) ≡ b → b ≡ false
+pub other_number : (f : BookingList → ℕ) (n : ℕ) (xs : List BookingList) (x : BookingList) → find (owns f n) xs ≡ None → IsIn x xs → (b : Bool) → (f x == n) ≡ b → b ≡ false
 other_number f n xs x e i true g = absurd (found_none (owns f n) xs x e i g)
 other_number f n xs x e i false g = refl
 

@@ -15,13 +15,16 @@ pub mod Probing
 pub mod Raised
 pub mod Reading
 pub mod Relisted
+pub mod Renumbered
 pub mod Reweighed
+pub mod Resourced
 pub mod RoomLemmas
 pub mod Scanned
 pub mod Standing
 pub mod StartLemmas
 pub mod Staying
 pub mod TakenBack
+pub mod Ungrouped
 pub mod Used
 pub mod Weighed
 pub mod Whole

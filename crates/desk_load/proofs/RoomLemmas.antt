@@ -89,7 +89,7 @@ find_none {A} f r (x ∷ xs) e = step (f x == r) refl e (find_none f r xs)
     step true g h k = cc
     step false g h k = k h
 
-none_found : {A : Type 0} (f : A → ℕ) (r : ℕ) (xs : List A) → list_any (λ n. n == r) (map f xs) ≡ false → find (owns f r) xs ≡ None
+pub none_found : {A : Type 0} (f : A → ℕ) (r : ℕ) (xs : List A) → list_any (λ n. n == r) (map f xs) ≡ false → find (owns f r) xs ≡ None
 none_found f r [] e = refl
 none_found {A} f r (x ∷ xs) e = step (f x == r) e (none_found f r xs)
   where

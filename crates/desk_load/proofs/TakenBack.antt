@@ -1,13 +1,14 @@
 -- Parts of an index that are replaced and put back.
-use Rattle.std.proofs.Common.{◌≡◌, ℕ, zero, suc, ◌≤◌, List, [], ◌∷◌, ◌++◌, set, length, get_or, refl, sym, ap, ◌∙◌, arith}
+use Rattle.std.proofs.Common.{◌≡◌, ℕ, zero, suc, ◌+◌, ◌<◌, ◌≤◌, true, cond, ◌&&◌, nat_le, nat_lt, List, [], ◌∷◌, ◌++◌, set, length, get_or, refl, sym, ap, ◌∙◌, arith}
 use Rattle.std.proofs.lemmas.List.{set-set, set-get_or, append-nil, take_all, drop_all}
+use Rattle.std.proofs.lemmas.Bool.Decides.{nat_tests}
 use Rattle.std.specs.List.{insert, remove}
 use Rattle.desk_load.specs.declared.weights.Weight.{Weight}
 use Rattle.desk_load.specs.declared.lists.BookingList.{BookingList}
 use Rattle.desk_load.specs.declared.changes.opened.Former.{Former}
-use Rattle.desk_load.specs.declared.changes.opened.Former.TheVariants.{Weighed, Standing, Booked, Added}
+use Rattle.desk_load.specs.declared.changes.opened.Former.TheVariants.{Weighed, Standing, Booked, AddedWeight, AddedStanding, AddedBooked, RemovedWeight, RemovedStanding, RemovedBooked}
 use Rattle.desk_load.specs.Parted.{IndexParts}
-use Rattle.desk_load.specs.Changed.{put_back, taken_back}
+use Rattle.desk_load.specs.Changed.{put_among, put_back, taken_back}
 
 pub taken_back-append : (i : IndexParts) (formers : List Former) (former : Former) → taken_back i (formers ++ former ∷ []) ≡ taken_back (put_back i former) formers
 taken_back-append i [] former = refl
@@ -42,6 +43,46 @@ removed_again (y ∷ ys) (suc at) x l = ap (λ l. y ∷ l) (removed_again ys at 
 pub remove_past : {A : Type 0} (xs : List A) (at : ℕ) → length xs ≤ at → remove xs at ≡ xs
 remove_past xs at l = (let a = take_all at xs l in let b = drop_all (suc at) xs (omega (arith, l)) in λ i. a i ++ b i) ∙ append-nil xs
 
--- a list that is added and noted
-pub added_back : (i : IndexParts) (at : ℕ) (x : BookingList) → at ≤ length i.booked → put_back (record i { booked = insert i.booked at x }) (Added at) ≡ i
-added_back i at x l = ap (λ (l : List BookingList). record i { booked = l }) (removed_again i.booked at x l)
+-- a part that is added and noted
+pub weight_added_back : (i : IndexParts) (at : ℕ) (x : Weight) → at ≤ length i.weights → put_back (record i { weights = insert i.weights at x }) (AddedWeight at) ≡ i
+weight_added_back i at x l = ap (λ (l : List Weight). record i { weights = l }) (removed_again i.weights at x l)
+
+pub standing_added_back : (i : IndexParts) (at : ℕ) (x : BookingList) → at ≤ length i.standing → put_back (record i { standing = insert i.standing at x }) (AddedStanding at) ≡ i
+standing_added_back i at x l = ap (λ (l : List BookingList). record i { standing = l }) (removed_again i.standing at x l)
+
+pub booked_added_back : (i : IndexParts) (at : ℕ) (x : BookingList) → at ≤ length i.booked → put_back (record i { booked = insert i.booked at x }) (AddedBooked at) ≡ i
+booked_added_back i at x l = ap (λ (l : List BookingList). record i { booked = l }) (removed_again i.booked at x l)
+
+-- ---- a part that is removed and noted
+
+length_removed : {A : Type 0} (xs : List A) (at : ℕ) → at < length xs → length (remove xs at) + 1 ≡ length xs
+length_removed [] at l = absurd (omega arith)
+length_removed (x ∷ xs) zero l = omega arith
+length_removed (x ∷ xs) (suc at) l = let h = length_removed xs at (omega arith) in omega (arith, h)
+
+inserted_again : {A : Type 0} (xs : List A) (at : ℕ) (d : A) → at < length xs → insert (remove xs at) at (get_or xs at d) ≡ xs
+inserted_again [] at d l = absurd (omega arith)
+inserted_again (x ∷ xs) zero d l = refl
+inserted_again (x ∷ xs) (suc at) d l = ap (λ l. x ∷ l) (inserted_again xs at d (omega arith))
+
+within : (m n : ℕ) → m ≤ n → nat_le m n ≡ true
+within m n h = grind (arith, nat_tests)
+
+under : (m n : ℕ) → m < n → nat_lt m n ≡ true
+under m n h = grind (arith, nat_tests)
+
+put_among_again : {A : Type 0} (xs : List A) (at room : ℕ) (x d : A) → at < length xs → x ≡ get_or xs at d → room ≡ length xs → put_among at x room (remove xs at) ≡ xs
+put_among_again xs at room x d l e f =
+    let n = length_removed xs at l in
+    let low = within at (length (remove xs at)) (omega (arith, n, l)) in
+    let high = under (length (remove xs at)) room (omega (arith, n, f)) in
+    (λ i. cond (low i && high i) (insert (remove xs at) at (e i)) (remove xs at)) ∙ inserted_again xs at d l
+
+pub weight_removed_back : (i : IndexParts) (at room : ℕ) (x d : Weight) → at < length i.weights → x ≡ get_or i.weights at d → room ≡ length i.weights → put_back (record i { weights = remove i.weights at }) (RemovedWeight at x room) ≡ i
+weight_removed_back i at room x d l e f = ap (λ (l : List Weight). record i { weights = l }) (put_among_again i.weights at room x d l e f)
+
+pub standing_removed_back : (i : IndexParts) (at room : ℕ) (x d : BookingList) → at < length i.standing → x ≡ get_or i.standing at d → room ≡ length i.standing → put_back (record i { standing = remove i.standing at }) (RemovedStanding at x room) ≡ i
+standing_removed_back i at room x d l e f = ap (λ (l : List BookingList). record i { standing = l }) (put_among_again i.standing at room x d l e f)
+
+pub booked_removed_back : (i : IndexParts) (at room : ℕ) (x d : BookingList) → at < length i.booked → x ≡ get_or i.booked at d → room ≡ length i.booked → put_back (record i { booked = remove i.booked at }) (RemovedBooked at x room) ≡ i
+booked_removed_back i at room x d l e f = ap (λ (l : List BookingList). record i { booked = l }) (put_among_again i.booked at room x d l e f)

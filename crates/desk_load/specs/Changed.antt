@@ -1,12 +1,12 @@
 -- An index some parts of which are replaced.
-use Rattle.std.specs.Prelude.{List, [], ◌∷◌, map, set}
+use Rattle.std.specs.Prelude.{ℕ, ◌&&◌, nat_le, nat_lt, List, [], ◌∷◌, map, set, length, if◌then◌else◌}
 use Rattle.std.specs.Ordering.{nat_cmp}
-use Rattle.std.specs.List.{remove}
+use Rattle.std.specs.List.{insert, remove}
 use Rattle.std.specs.List.Sorted.{IsStrictlySortedBy}
 use Rattle.desk_load.specs.declared.weights.Weight.{Weight}
 use Rattle.desk_load.specs.declared.lists.BookingList.{BookingList}
 use Rattle.desk_load.specs.declared.changes.opened.Former.{Former}
-use Rattle.desk_load.specs.declared.changes.opened.Former.TheVariants.{Weighed, Standing, Booked, Added}
+use Rattle.desk_load.specs.declared.changes.opened.Former.TheVariants.{Weighed, Standing, Booked, AddedWeight, AddedStanding, AddedBooked, RemovedWeight, RemovedStanding, RemovedBooked}
 use Rattle.desk_load.specs.declared.changes.opened.OpenIndex.{OpenIndex}
 use Rattle.desk_load.specs.Parted.{IndexParts}
 
@@ -16,12 +16,21 @@ IsOrdered i =
     IsStrictlySortedBy nat_cmp (map (λ (w : Weight). w.resource) i.weights) × IsStrictlySortedBy nat_cmp (map (λ (l : BookingList). l.number) i.standing)
     × IsStrictlySortedBy nat_cmp (map (λ (l : BookingList). l.number) i.booked)
 
--- the index with a former part of it in the place of the one that stands there, or without a list that was added
+-- the rows with one that was removed at its place again, where the memory that was kept for so many rows has room
+abbrev pub put_among : {A : Type 0} → ℕ → A → ℕ → List A → List A
+put_among at x room xs = if nat_le at (length xs) && nat_lt (length xs) room then insert xs at x else xs
+
+-- the index with a former part of it in the place of the one that stands there, without a part that was added, or with one that was removed
 abbrev pub put_back : IndexParts → Former → IndexParts
 put_back i (Weighed at w) = record i { weights = set i.weights at w }
 put_back i (Standing at l) = record i { standing = set i.standing at l }
 put_back i (Booked at l) = record i { booked = set i.booked at l }
-put_back i (Added at) = record i { booked = remove i.booked at }
+put_back i (AddedWeight at) = record i { weights = remove i.weights at }
+put_back i (AddedStanding at) = record i { standing = remove i.standing at }
+put_back i (AddedBooked at) = record i { booked = remove i.booked at }
+put_back i (RemovedWeight at w room) = record i { weights = put_among at w room i.weights }
+put_back i (RemovedStanding at l room) = record i { standing = put_among at l room i.standing }
+put_back i (RemovedBooked at l room) = record i { booked = put_among at l room i.booked }
 
 -- the index with all of these parts again, the last first
 abbrev pub taken_back : IndexParts → List Former → IndexParts

@@ -5,6 +5,7 @@ pub mod Clashes
 pub mod Differing
 pub mod Effects
 pub mod Index
+pub mod Joined
 pub mod Lists
 pub mod Overs
 pub mod Parted

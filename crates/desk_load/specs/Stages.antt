@@ -5,12 +5,17 @@ use Rattle.std.specs.List.Sorted.{IsStrictlySortedBy}
 use Rattle.desk_base.specs.declared.rows.tables.Tables.{Tables}
 use Rattle.desk_base.specs.declared.rows.bookings.BookingRow.{BookingRow}
 use Rattle.desk_base.specs.declared.rows.tables.AnyRow.TheVariants.{Booking}
-use Rattle.desk_base.specs.declared.rows.tables.Table.TheVariants.{Booking as BookingTable}
-use Rattle.desk_base.specs.rows.Keys.{key_cmp}
+use Rattle.desk_base.specs.declared.rows.tables.Table.TheVariants.{Resource as ResourceTable, Group as GroupTable, Booking as BookingTable}
+use Rattle.desk_base.specs.declared.rows.tables.Key.{Key}
+use Rattle.desk_base.specs.rows.Keys.{key_cmp, id_key}
 use Rattle.desk_base.specs.rows.Lookups.{keys_by}
 use Rattle.desk_base.specs.rules.Limits.{effort_limit}
 use Rattle.desk_base.specs.rules.Sound.{taken_limit_of}
 use Rattle.desk_base.specs.meaning.Capacity.{resource_of}
+use Rattle.desk_load.specs.declared.changes.follow.Named.{Named}
+use Rattle.desk_load.specs.declared.changes.follow.Named.TheVariants.{Booking as NamedBooking, Group as NamedGroup, Resource as NamedResource}
+use Rattle.desk_load.specs.declared.changes.follow.Phase.{Phase}
+use Rattle.desk_load.specs.declared.changes.follow.Phase.TheVariants.{Open, Closed}
 use Rattle.desk_load.specs.Parted.{IndexParts}
 use Rattle.desk_load.specs.Index.{IsIndexOf, group_numbers}
 use Rattle.desk_load.specs.Changed.{IsOrdered}
@@ -36,3 +41,14 @@ pub record IsStage (t s : Tables) (next more : ℕ) (i : IndexParts) : Type 0 wh
   pub few : length s.bookings + more ≤ most_bookings
   pub index : IsIndexOf s i
   pub order : IsOrdered i
+
+-- the key under which it stands
+abbrev pub key_of_named : Named → Key
+key_of_named (NamedBooking id) = id_key BookingTable id
+key_of_named (NamedGroup number) = id_key GroupTable number
+key_of_named (NamedResource number) = id_key ResourceTable number
+
+-- how far a change was followed: bookings may be put from a number on, or the index is one of the tables, and only rows that are not indexed may follow
+abbrev pub IsPhase : Tables → Tables → Phase → ℕ → IndexParts → Type 0
+IsPhase t s (Open next) more i = IsStage t s next more i
+IsPhase t s Closed more i = IsIndexOf s i × IsOrdered i

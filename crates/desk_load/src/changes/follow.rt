@@ -1,5 +1,5 @@
-//! Changes whose indexed rows are bookings, and groups that are put before them: an index follows them row by row, and nothing
-//! else of it is touched.
+//! Changes that an index follows row by row: bookings that are taken out and put, groups that are put before them, and at last a
+//! group that is taken out, or a resource that is put or taken out. Nothing else of it is touched.
 ghost use Rattle.std.specs.Prelude.{◌≡◌, ◌==◌, ℕ, suc, true, ◌≤◌, length, find, IfOk, OnOk, IfSome};
 ghost use Rattle.std.specs.Option.{option_copied};
 ghost use Rattle.desk_base.specs.declared.rows.tables.Tables.{Tables};
@@ -11,7 +11,7 @@ ghost use Rattle.desk_base.specs.rules.Sound.{AreWellFormed};
 ghost use Rattle.desk_base.specs.changes.Changes.{with_row, without_row, without_key, with_rows, without_keys, with_change};
 ghost use Rattle.desk_load.specs.Index.{IsIndexOf};
 ghost use Rattle.desk_load.specs.Changed.{IsOrdered, parts_of, before_of};
-ghost use Rattle.desk_load.specs.Stages.{IsUsable, IsStage};
+ghost use Rattle.desk_load.specs.Stages.{IsUsable, IsStage, IsPhase, key_of_named};
 
 use crate::changes::opened::OpenIndex;
 use crate::changes::turns::Turn;
@@ -26,19 +26,42 @@ use std::alloc::Global;
 pub(crate) enum Stop {
     /// Memory was not found.
     NoMemory,
-    /// It changes more than bookings and groups that are put before them, or puts bookings in another order than that of their numbers.
+    /// It changes memberships or what a resource is, takes out a resource on which something stands, puts bookings in another
+    /// order than that of their numbers, or changes something behind a row that must be the last.
     Unfollowed,
 }
 
-/// The number of the booking that stands under a key; `None` where no booking may.
-fn booking_of(key: &Key) -> Option<BookingId>
-    ensures { IfSome result (λ id. key.now ≡ id_key BookingTable id) }
+/// How far a change was followed.
+#[derive(Clone, Copy)]
+pub(crate) enum Phase {
+    /// Bookings may be put, from this number on. While it is 0, other rows may be too.
+    Open(u32),
+    /// Only rows that are not indexed may follow.
+    Closed,
+}
+
+/// A booking, a group or a resource that may stand under a key.
+#[derive(Clone, Copy)]
+enum Named {
+    Booking(BookingId),
+    Group(u32),
+    Resource(u32),
+}
+
+/// What may stand under a key of one number; `None` for the key of another table, and where nothing may.
+fn named_by(key: &Key) -> Option<Named>
+    ensures { IfSome result (λ n. key.now ≡ key_of_named n) }
 {
     if key.b != 0 || key.c != 0 {
         return None;
     }
     match key.table {
-        Table::Booking => BookingId::of(key.a),
+        Table::Booking => match BookingId::of(key.a) {
+            Some(id) => Some(Named::Booking(id)),
+            None => None,
+        },
+        Table::Group => Some(Named::Group(key.a)),
+        Table::Resource => Some(Named::Resource(key.a)),
         _ => None,
     }
 }
@@ -111,37 +134,71 @@ impl OpenIndex {
         Ok(())
     }
 
-    /// Takes the row of a key out, where that is a booking or is not indexed.
-    fn take_out_key(&mut self, alloc: Global, tables: &Tables, key: &Key) -> Result<(), Stop>
+    /// Takes a booking, a group or a resource out, where it stands.
+    fn take_out_named(
+        &mut self,
+        alloc: Global,
+        tables: &Tables,
+        named: Named,
+    ) -> Result<Phase, Stop>
         requires well_formed { AreWellFormed tables.now }
         requires stage { (s : Tables) × ((more : ℕ) × IsStage tables.now s 0 more (parts_of self.old)) }
-        ensures out { OnOk result ((s : Tables) (more : ℕ) → IsStage tables.now s 0 more (parts_of self.old) → IsStage tables.now (without_key s key.now) 0 more (parts_of self.new)) }
+        ensures out { IfOk result (λ p. (s : Tables) (more : ℕ) → IsStage tables.now s 0 more (parts_of self.old) → IsPhase tables.now (without_key s (key_of_named named)) p more (parts_of self.new)) }
         ensures before { before_of self.new ≡ before_of self.old }
     {
-        if !is_indexed(key.table) {
-            return Ok(());
-        }
-        let Some(id) = booking_of(key) else {
-            return Err(Stop::Unfollowed);
-        };
-        match self.take_out(alloc, tables, 0, id) {
-            Ok(()) => Ok(()),
-            Err(NoMemory) => Err(Stop::NoMemory),
+        match named {
+            Named::Booking(id) => match self.take_out(alloc, tables, 0, id) {
+                Ok(()) => Ok(Phase::Open(0)),
+                Err(NoMemory) => Err(Stop::NoMemory),
+            },
+            Named::Group(number) => match self.take_out_group(alloc, number) {
+                Ok(()) => Ok(Phase::Closed),
+                Err(NoMemory) => Err(Stop::NoMemory),
+            },
+            Named::Resource(number) => {
+                self.take_out_resource(alloc, tables, number)?;
+                Ok(Phase::Closed)
+            }
         }
     }
 
-    /// Puts a row that is a group, a booking, or not indexed, and gives the least number of a booking that may be put then.
+    /// Takes the row of a key out, where that is a booking, a group, a resource or not indexed.
+    fn take_out_key(
+        &mut self,
+        alloc: Global,
+        tables: &Tables,
+        phase: Phase,
+        key: &Key,
+    ) -> Result<Phase, Stop>
+        requires well_formed { AreWellFormed tables.now }
+        requires stage { (s : Tables) × ((more : ℕ) × IsPhase tables.now s phase more (parts_of self.old)) }
+        ensures out { IfOk result (λ p. (s : Tables) (more : ℕ) → IsPhase tables.now s phase more (parts_of self.old) → IsPhase tables.now (without_key s key.now) p more (parts_of self.new)) }
+        ensures before { before_of self.new ≡ before_of self.old }
+    {
+        if !is_indexed(key.table) {
+            return Ok(phase);
+        }
+        let Phase::Open(0) = phase else {
+            return Err(Stop::Unfollowed);
+        };
+        let Some(named) = named_by(key) else {
+            return Err(Stop::Unfollowed);
+        };
+        self.take_out_named(alloc, tables, named)
+    }
+
+    /// Puts a row that is a group, a resource, a booking, or not indexed.
     #[tactic(auto, using(crate::proofs::Numbers::keys_climb))]
-    fn put_row(
+    fn put_open(
         &mut self,
         alloc: Global,
         tables: &Tables,
         next: u32,
         row: &AnyRow,
-    ) -> Result<u32, Stop>
+    ) -> Result<Phase, Stop>
         requires well_formed { AreWellFormed tables.now }
         requires stage { (s : Tables) × ((more : ℕ) × IsStage tables.now s next (suc more) (parts_of self.old)) }
-        ensures put { IfOk result (λ n. (s : Tables) (more : ℕ) → IsStage tables.now s next (suc more) (parts_of self.old) → IsStage tables.now (with_row s row.now) n more (parts_of self.new)) }
+        ensures put { IfOk result (λ p. (s : Tables) (more : ℕ) → IsStage tables.now s next (suc more) (parts_of self.old) → IsPhase tables.now (with_row s row.now) p more (parts_of self.new)) }
         ensures before { before_of self.new ≡ before_of self.old }
     {
         match row {
@@ -150,7 +207,7 @@ impl OpenIndex {
                     return Err(Stop::Unfollowed);
                 }
                 match self.put_in(alloc, tables, next, booking) {
-                    Ok(()) => Ok(booking.id.get() + 1),
+                    Ok(()) => Ok(Phase::Open(booking.id.get() + 1)),
                     Err(NoMemory) => Err(Stop::NoMemory),
                 }
             }
@@ -159,49 +216,94 @@ impl OpenIndex {
                     return Err(Stop::Unfollowed);
                 }
                 match self.put_group(alloc, tables, group) {
-                    Ok(()) => Ok(0),
+                    Ok(()) => Ok(Phase::Open(0)),
                     Err(NoMemory) => Err(Stop::NoMemory),
                 }
+            }
+            AnyRow::Resource(resource) => {
+                if next != 0 {
+                    return Err(Stop::Unfollowed);
+                }
+                self.put_resource(alloc, tables, resource)?;
+                Ok(Phase::Closed)
             }
             _ => {
                 if is_indexed(row.key().table) {
                     Err(Stop::Unfollowed)
                 } else {
-                    Ok(next)
+                    Ok(Phase::Open(next))
+                }
+            }
+        }
+    }
+
+    /// Puts a row that may follow.
+    fn put_row(
+        &mut self,
+        alloc: Global,
+        tables: &Tables,
+        phase: Phase,
+        row: &AnyRow,
+    ) -> Result<Phase, Stop>
+        requires well_formed { AreWellFormed tables.now }
+        requires stage { (s : Tables) × ((more : ℕ) × IsPhase tables.now s phase (suc more) (parts_of self.old)) }
+        ensures put { IfOk result (λ p. (s : Tables) (more : ℕ) → IsPhase tables.now s phase (suc more) (parts_of self.old) → IsPhase tables.now (with_row s row.now) p more (parts_of self.new)) }
+        ensures before { before_of self.new ≡ before_of self.old }
+    {
+        match phase {
+            Phase::Open(next) => self.put_open(alloc, tables, next, row),
+            Phase::Closed => {
+                if is_indexed(row.key().table) {
+                    Err(Stop::Unfollowed)
+                } else {
+                    Ok(Phase::Closed)
                 }
             }
         }
     }
 
     /// Takes out the rows of the keys of a change.
-    fn take_out_all(&mut self, alloc: Global, tables: &Tables, change: &Change) -> Result<(), Stop>
+    fn take_out_all(
+        &mut self,
+        alloc: Global,
+        tables: &Tables,
+        change: &Change,
+    ) -> Result<Phase, Stop>
         requires well_formed { AreWellFormed tables.now }
         requires stage { IsStage tables.now tables.now 0 (length change.now.puts) (parts_of self.old) }
-        ensures out { OnOk result (IsStage tables.now (without_keys tables.now change.now.removes) 0 (length change.now.puts) (parts_of self.new)) }
+        ensures out { IfOk result (λ p. IsPhase tables.now (without_keys tables.now change.now.removes) p (length change.now.puts) (parts_of self.new)) }
         ensures before { before_of self.new ≡ before_of self.old }
     {
+        let mut phase = Phase::Open(0);
         for key in change.removes.as_slice() {
-            self.take_out_key(alloc, tables, key)?;
+            phase = self.take_out_key(alloc, tables, phase, key)?;
         }
-        Ok(())
+        Ok(phase)
     }
 
     /// Puts the rows of a change.
-    fn put_all(&mut self, alloc: Global, tables: &Tables, change: &Change) -> Result<(), Stop>
+    fn put_all(
+        &mut self,
+        alloc: Global,
+        tables: &Tables,
+        phase: Phase,
+        change: &Change,
+    ) -> Result<(), Stop>
         requires well_formed { AreWellFormed tables.now }
-        requires stage { IsStage tables.now (without_keys tables.now change.now.removes) 0 (length change.now.puts) (parts_of self.old) }
+        requires stage { IsPhase tables.now (without_keys tables.now change.now.removes) phase (length change.now.puts) (parts_of self.old) }
         ensures index { OnOk result (IsIndexOf (with_rows (without_keys tables.now change.now.removes) change.now.puts) (parts_of self.new)) }
         ensures order { OnOk result (IsOrdered (parts_of self.new)) }
         ensures before { before_of self.new ≡ before_of self.old }
     {
-        let mut next = 0;
+        let mut phase = phase;
         for row in change.puts.as_slice() {
-            next = self.put_row(alloc, tables, next, row)?;
+            phase = self.put_row(alloc, tables, phase, row)?;
         }
         Ok(())
     }
 
-    /// Follows a change whose indexed rows are bookings, put in the order of their numbers, and groups that are put before them.
+    /// Follows a change whose indexed rows are bookings, put in the order of their numbers, groups that are put before them, and at
+    /// last a group that is taken out, or a resource.
     pub(crate) fn follow(
         &mut self,
         alloc: Global,
@@ -219,8 +321,8 @@ impl OpenIndex {
         if MOST_BOOKINGS < standing || MOST_BOOKINGS - standing < change.puts.len() {
             return Err(Stop::Unfollowed);
         }
-        self.take_out_all(alloc, tables, change)?;
-        self.put_all(alloc, tables, change)?;
+        let phase = self.take_out_all(alloc, tables, change)?;
+        self.put_all(alloc, tables, phase, change)?;
         Ok(())
     }
 }

@@ -1,10 +1,11 @@
 //! An index that stands open for a change: parts of it are replaced, and those that stood in their places are kept, so that the
 //! index can be had as it was.
 ghost use Rattle.std.specs.Prelude.{◌≡◌, ◌<◌, ◌≤◌, length, OnOk, IfSome};
-ghost use Rattle.std.specs.List.{HoldsAt, insert};
-ghost use Rattle.desk_load.specs.declared.changes.opened.Former.TheVariants.{Weighed, Standing, Booked, Added};
-ghost use Rattle.desk_load.specs.Changed.{IsOrdered, put_back, taken_back, parts_of, before_of};
+ghost use Rattle.std.specs.List.{HoldsAt, insert, remove};
+ghost use Rattle.desk_load.specs.declared.changes.opened.Former.TheVariants.{Weighed, Standing, Booked, AddedBooked};
+ghost use Rattle.desk_load.specs.Changed.{IsOrdered, put_among, put_back, taken_back, parts_of, before_of};
 
+use crate::changes::spare::Spare;
 use crate::index::LoadIndex;
 use crate::lists::BookingList;
 use crate::weights::Weight;
@@ -19,8 +20,14 @@ pub(crate) enum Former {
     Weighed(usize, Weight),
     Standing(usize, BookingList),
     Booked(usize, BookingList),
-    /// No list: one was added at this place.
-    Added(usize),
+    /// No part: one was added at this place.
+    AddedWeight(usize),
+    AddedStanding(usize),
+    AddedBooked(usize),
+    /// A part that was removed, with the memory in which it goes back.
+    RemovedWeight(usize, Weight, Spare<Weight>),
+    RemovedStanding(usize, BookingList, Spare<BookingList>),
+    RemovedBooked(usize, BookingList, Spare<BookingList>),
 }
 
 /// The parts of an index, and those that were replaced, in the order in which they were.
@@ -43,6 +50,15 @@ pub(crate) fn place_of<T: Placed>(rows: &[T], owner: u32) -> Option<usize>
         Some(at)
     } else {
         None
+    }
+}
+
+/// Puts a row that was removed at its place again, where the memory that was kept has room.
+fn put_among<T: Drop>(rows: &mut Vec<T>, at: usize, row: T, spare: Spare<T>)
+    ensures { rows.new.items ≡ put_among at row spare rows.old.items }
+{
+    if at <= rows.len() && rows.len() < spare.count() {
+        spare.insert(rows, at, row);
     }
 }
 
@@ -103,6 +119,34 @@ impl OpenIndex {
         Ok(())
     }
 
+    /// Adds the weight of a resource at a place.
+    pub(crate) fn add_weight(&mut self, at: usize, weight: Weight) -> Result<(), NoMemory>
+        requires { at ≤ length self.old.weights.items }
+        ensures parts { OnOk result (parts_of self.new ≡ record (parts_of self.old) { weights = insert self.old.weights.items at weight }) }
+        ensures before { before_of self.new ≡ before_of self.old }
+    {
+        self.formers.reserve(1)?;
+        let Ok(()) = self.weights.insert(at, weight) else {
+            return Err(NoMemory);
+        };
+        self.formers.push_reserved(Former::AddedWeight(at));
+        Ok(())
+    }
+
+    /// Adds the list of a resource at a place.
+    pub(crate) fn add_standing(&mut self, at: usize, list: BookingList) -> Result<(), NoMemory>
+        requires { at ≤ length self.old.standing.items }
+        ensures parts { OnOk result (parts_of self.new ≡ record (parts_of self.old) { standing = insert self.old.standing.items at list }) }
+        ensures before { before_of self.new ≡ before_of self.old }
+    {
+        self.formers.reserve(1)?;
+        let Ok(()) = self.standing.insert(at, list) else {
+            return Err(NoMemory);
+        };
+        self.formers.push_reserved(Former::AddedStanding(at));
+        Ok(())
+    }
+
     /// Adds the list of a group at a place.
     pub(crate) fn add_booked(&mut self, at: usize, list: BookingList) -> Result<(), NoMemory>
         requires { at ≤ length self.old.booked.items }
@@ -113,7 +157,49 @@ impl OpenIndex {
         let Ok(()) = self.booked.insert(at, list) else {
             return Err(NoMemory);
         };
-        self.formers.push_reserved(Former::Added(at));
+        self.formers.push_reserved(Former::AddedBooked(at));
+        Ok(())
+    }
+
+    /// Removes the weight of a resource at a place, and takes the memory in which it goes back.
+    pub(crate) fn remove_weight(&mut self, alloc: Global, at: usize) -> Result<(), NoMemory>
+        requires { at < length self.old.weights.items }
+        ensures parts { OnOk result (parts_of self.new ≡ record (parts_of self.old) { weights = remove self.old.weights.items at }) }
+        ensures before { before_of self.new ≡ before_of self.old }
+    {
+        let spare = Spare::of(alloc, self.weights.len())?;
+        self.formers.reserve(1)?;
+        let former = self.weights.remove(at);
+        self.formers
+            .push_reserved(Former::RemovedWeight(at, former, spare));
+        Ok(())
+    }
+
+    /// Removes the list of a resource at a place, and takes the memory in which it goes back.
+    pub(crate) fn remove_standing(&mut self, alloc: Global, at: usize) -> Result<(), NoMemory>
+        requires { at < length self.old.standing.items }
+        ensures parts { OnOk result (parts_of self.new ≡ record (parts_of self.old) { standing = remove self.old.standing.items at }) }
+        ensures before { before_of self.new ≡ before_of self.old }
+    {
+        let spare = Spare::of(alloc, self.standing.len())?;
+        self.formers.reserve(1)?;
+        let former = self.standing.remove(at);
+        self.formers
+            .push_reserved(Former::RemovedStanding(at, former, spare));
+        Ok(())
+    }
+
+    /// Removes the list of a group at a place, and takes the memory in which it goes back.
+    pub(crate) fn remove_booked(&mut self, alloc: Global, at: usize) -> Result<(), NoMemory>
+        requires { at < length self.old.booked.items }
+        ensures parts { OnOk result (parts_of self.new ≡ record (parts_of self.old) { booked = remove self.old.booked.items at }) }
+        ensures before { before_of self.new ≡ before_of self.old }
+    {
+        let spare = Spare::of(alloc, self.booked.len())?;
+        self.formers.reserve(1)?;
+        let former = self.booked.remove(at);
+        self.formers
+            .push_reserved(Former::RemovedBooked(at, former, spare));
         Ok(())
     }
 
@@ -138,10 +224,29 @@ impl OpenIndex {
                     self.booked[at] = list;
                 }
             }
-            Former::Added(at) => {
+            Former::AddedWeight(at) => {
+                if at < self.weights.len() {
+                    let _weight = self.weights.remove(at);
+                }
+            }
+            Former::AddedStanding(at) => {
+                if at < self.standing.len() {
+                    let _list = self.standing.remove(at);
+                }
+            }
+            Former::AddedBooked(at) => {
                 if at < self.booked.len() {
                     let _list = self.booked.remove(at);
                 }
+            }
+            Former::RemovedWeight(at, weight, spare) => {
+                put_among(&mut self.weights, at, weight, spare);
+            }
+            Former::RemovedStanding(at, list, spare) => {
+                put_among(&mut self.standing, at, list, spare);
+            }
+            Former::RemovedBooked(at, list, spare) => {
+                put_among(&mut self.booked, at, list, spare);
             }
         }
     }
