@@ -1,6 +1,6 @@
 //! Changes, made of plain values.
 ghost use Rattle.std.specs.Prelude.{◌≡◌, ◌∷◌, [], IfOk};
-ghost use Rattle.desk_core.specs.Built.{HasPlainLeaf, IsPlainLeaf, IsServed};
+ghost use Rattle.desk_change.specs.Served.{IsServed};
 
 use desk_base::limits::FIRST_MINUTE;
 use desk_base::{
@@ -88,9 +88,7 @@ pub fn put(alloc: Global, wanted: Wanted) -> Result<Act, Fail>
     }
 }
 
-fn leaf(alloc: Global, duration: u32, effort: u32) -> Leaf
-    ensures { IsPlainLeaf result }
-{
+fn leaf(alloc: Global, duration: u32, effort: u32) -> Leaf {
     Leaf {
         duration,
         offset: 0,
@@ -120,10 +118,7 @@ fn group_row(
     from: Minute,
     to: Minute,
     leaf: Leaf,
-) -> Result<GroupRow, NoMemory>
-    requires { IsPlainLeaf leaf }
-    ensures { IfOk result HasPlainLeaf }
-{
+) -> Result<GroupRow, NoMemory> {
     let node = Node {
         depth: 0,
         kind: NodeKind::Leaf,

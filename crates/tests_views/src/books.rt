@@ -1,7 +1,8 @@
 //! Books over the trial tables: 1 and 2 work on Mondays from 08:00 to 12:00, and 3 from 10:00, each with a capacity of 1.
 ghost use Rattle.std.specs.Prelude.{IfOk};
 ghost use Rattle.desk_base.specs.rules.Sound.{IsSound};
-ghost use Rattle.desk_core.specs.Built.{IsBuilt, IsServed};
+ghost use Rattle.desk_change.specs.Served.{IsServed};
+ghost use Rattle.desk_core.specs.Built.{IsBuilt};
 
 use crate::acts::{Booking, Wanted, book_of, group_of, put};
 use desk_base::laws::trial_is_sound;
@@ -90,9 +91,17 @@ fn add_all(
     Ok(())
 }
 
+/// A book over the trial tables.
+fn opened(alloc: Global) -> Result<Book, NoMemory> {
+    match Book::over(alloc, trial(alloc)?) {
+        Ok(book) => Ok(book),
+        Err(_tables) => Err(NoMemory),
+    }
+}
+
 /// A book over the trial tables with these rows and these bookings, which have the numbers from 1 on.
 pub fn book_with(alloc: Global, rows: &[Wanted], bookings: &[Booking]) -> Result<Book, Fail> {
-    let mut book = Book::over(alloc, trial(alloc)?);
+    let mut book = opened(alloc)?;
     add_all(alloc, &mut book, rows, bookings)?;
     Ok(book)
 }

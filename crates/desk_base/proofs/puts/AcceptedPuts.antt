@@ -27,7 +27,7 @@ is_put_row (Booking x) = false
 is_put_row (Caller x) = false
 is_put_row _ = true
 
-put_row : (t : Tables) (row : AnyRow) → is_put_row row ≡ true → (has_tree row ≡ true) × (is_unbooked t row ≡ true) × (is_caller row ≡ false)
+pub put_row : (t : Tables) (row : AnyRow) → is_put_row row ≡ true → (has_tree row ≡ true) × (is_unbooked t row ≡ true) × (is_caller row ≡ false)
 put_row t (Group x) e = absurd (false≢true e)
 put_row t (Booking x) e = absurd (false≢true e)
 put_row t (Caller x) e = absurd (false≢true e)

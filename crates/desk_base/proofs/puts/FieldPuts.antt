@@ -22,14 +22,14 @@ use Rattle.desk_base.proofs.puts.KindPuts.{kinds_put, sort_put, one_kind_put}
 
 -- ---- rules that hold, one by one
 
-unbroken : (rules : Rules) → AllByRecursion (λ x. x.0 ≡ true) rules → first_broken rules ≡ None
+pub unbroken : (rules : Rules) → AllByRecursion (λ x. x.0 ≡ true) rules → first_broken rules ≡ None
 unbroken [] h = refl
 unbroken (x ∷ rules) h = ap (λ b. cond b (first_broken rules) (Some x.1)) h.0 ∙ unbroken rules h.1
 
-keeps_from : (rules : Rules) → AllByRecursion (λ x. x.0 ≡ true) rules → (is_none (first_broken rules) && true) ≡ true
+pub keeps_from : (rules : Rules) → AllByRecursion (λ x. x.0 ≡ true) rules → (is_none (first_broken rules) && true) ≡ true
 keeps_from rules h = ap (λ o. is_none o && true) (unbroken rules h)
 
-kept_in : (rules : Rules) → (is_none (first_broken rules) && true) ≡ true → AllByRecursion (λ x. x.0 ≡ true) rules
+pub kept_in : (rules : Rules) → (is_none (first_broken rules) && true) ≡ true → AllByRecursion (λ x. x.0 ≡ true) rules
 kept_in rules e = rules_kept rules (none_from (first_broken rules) (and_left (is_none (first_broken rules)) true e))
 
 module _ (t : Tables) (row : AnyRow) (s : IsSound t) (fit : Suits t row) where

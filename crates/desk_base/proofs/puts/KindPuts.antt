@@ -38,7 +38,7 @@ same_sort k l e = sym (sort-number k) ∙ ap sort_by_number e ∙ sort-number l
 
 -- ---- resources by their ids
 
-none_found : {A : Type 0} (p : A → Bool) (xs : List A) (x : A) → find p xs ≡ None → IsIn x xs → p x ≡ true → ⊥
+pub none_found : {A : Type 0} (p : A → Bool) (xs : List A) (x : A) → find p xs ≡ None → IsIn x xs → p x ≡ true → ⊥
 none_found p [] x e i h = i
 none_found {A} p (y ∷ ys) x e i h = step (p y) refl e i (λ f j. none_found p ys x f j h)
   where

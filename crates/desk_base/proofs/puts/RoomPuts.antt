@@ -23,13 +23,13 @@ pub same_room_back : (t u : Tables) → HaveSameRoom t u → HaveSameRoom u t
 same_room_back t u h = record { sorts = λ r. sym (h.sorts r); members = λ g m. sym (h.members g m); capacities = λ r m. sym (h.capacities r m) }
 
 module _ (t u : Tables) (h : HaveSameRoom t u) where
-  same_room_by : (k : LoadSort) (r m : ℕ) → room_by k u r m ≡ room_by k t r m
+  pub same_room_by : (k : LoadSort) (r m : ℕ) → room_by k u r m ≡ room_by k t r m
   same_room_by plain r m = ap Some (h.capacities r m)
   same_room_by crew r m = ap room_of_crew (h.members r m)
   same_room_by pool r m = ap Some (sum_by_same (λ x. capacity u x m) (λ x. capacity t x m) (members u r m) (λ x. h.capacities x m) ∙ ap (sum_by (λ x. capacity t x m)) (h.members r m))
   same_room_by unknown r m = refl
 
-  same_room : (r m : ℕ) → room u r m ≡ room t r m
+  pub same_room : (r m : ℕ) → room u r m ≡ room t r m
   unfolding room
   same_room r m = same_room_by (sort_of u r) r m ∙ ap (λ k. room_by k t r m) (h.sorts r)
 
@@ -45,7 +45,7 @@ module _ (t u : Tables) (h : HaveSameRoom t u) where
       (sum_by_same (λ x. plain_load u x m a) (λ x. plain_load t x m a) (members u r m) (λ x. same_plain_load x m a) ∙ ap (sum_by (λ x. plain_load t x m a)) (h.members r m))
   same_load_by unknown r m a = refl
 
-  same_load : (r m : ℕ) (a : Ask) → load u r m a ≡ load t r m a
+  pub same_load : (r m : ℕ) (a : Ask) → load u r m a ≡ load t r m a
   unfolding load
   same_load r m a = same_load_by (sort_of u r) r m a ∙ ap (λ k. load_by k t r m a) (h.sorts r)
 

@@ -72,14 +72,14 @@ module _ {R : Type 0} (any : R → AnyRow) where
 
   -- ---- rows that are taken out
 
-  in-without_one : (k : Key) (y : R) (rows : List R) → IsIn y (without_one (λ z. key_of (any z)) k rows) → IsIn y rows × (key y ≢ k)
+  pub in-without_one : (k : Key) (y : R) (rows : List R) → IsIn y (without_one (λ z. key_of (any z)) k rows) → IsIn y rows × (key y ≢ k)
   unfolding without_one
   in-without_one k y rows i = elim (in-append y (rows_below (λ z. key_of (any z)) k rows) (rows_above (λ z. key_of (any z)) k rows) i) [
     | inl j ↦ let h = in-filter (λ z. is_below (key z) k) y rows j in (h.0, λ e. not_below_itself k (ap (λ l. is_below l k) (sym e) ∙ h.1))
     | inr j ↦ let h = in-filter (λ z. is_below k (key z)) y rows j in (h.0, λ e. not_below_itself k (ap (is_below k) (sym e) ∙ h.1))
   ]
 
-  in_without : (k : Key) (y : R) (rows : List R) → IsIn y rows → key y ≢ k → IsIn y (without_one (λ z. key_of (any z)) k rows)
+  pub in_without : (k : Key) (y : R) (rows : List R) → IsIn y rows → key y ≢ k → IsIn y (without_one (λ z. key_of (any z)) k rows)
   unfolding without_one
   in_without k y rows i n = elim (key_cases (key y) k) [
     | inl e ↦ in_left y (rows_below (λ z. key_of (any z)) k rows) (rows_above (λ z. key_of (any z)) k rows) (in_filtered (λ z. is_below (key z) k) y rows i e)

@@ -198,7 +198,7 @@ module _ {R : Type 0} (key : R → Key) where
 -- ---- rows of one table among those of any
 
 module _ {R A : Type 0} (key : A → Key) (con : R → A) where
-  map-filter : (p : A → Bool) (rows : List R) → map con (filter (λ y. p (con y)) rows) ≡ filter p (map con rows)
+  pub map-filter : (p : A → Bool) (rows : List R) → map con (filter (λ y. p (con y)) rows) ≡ filter p (map con rows)
   map-filter p [] = refl
   map-filter p (y ∷ rows) = step (p (con y)) (map-filter p rows)
     where

@@ -19,7 +19,9 @@ pub enum Query {
         limit: u32,
     },
     /// The first entries of the journal whose revision is above this one.
-    Journal { from: u64 },
+    Journal {
+        from: u64,
+    },
     /// The revision alone.
     Revision,
 }

@@ -49,12 +49,7 @@ impl Model for Lacking {
 }
 
 /// Puts a list without the row of a key in the place of a list, which is given back.
-fn put_lacking<T: Row>(
-    rows: &mut Items<T>,
-    copy: Items<T>,
-    table: Table,
-    key: &Key,
-) -> Items<T>
+fn put_lacking<T: Row>(rows: &mut Items<T>, copy: Items<T>, table: Table, key: &Key) -> Items<T>
     requires copy { copy ≡ rows.old }
     requires rise { IsStrictlySortedBy key_cmp (keys_by (T.any table) rows.old) }
     ensures whole { result ≡ rows.old }
@@ -81,7 +76,12 @@ impl Tables {
             }
             Table::Calendar => {
                 let copy = copy_items(alloc, &self.calendars)?;
-                Ok(RoomList::Calendars(put_lacking(&mut self.calendars, copy, Table::Calendar, key)))
+                Ok(RoomList::Calendars(put_lacking(
+                    &mut self.calendars,
+                    copy,
+                    Table::Calendar,
+                    key,
+                )))
             }
             Table::Work => {
                 let copy = copy_plain(alloc, &self.works)?;
@@ -101,7 +101,12 @@ impl Tables {
             }
             Table::Resource => {
                 let copy = copy_items(alloc, &self.resources)?;
-                Ok(RoomList::Resources(put_lacking(&mut self.resources, copy, Table::Resource, key)))
+                Ok(RoomList::Resources(put_lacking(
+                    &mut self.resources,
+                    copy,
+                    Table::Resource,
+                    key,
+                )))
             }
             Table::Member => {
                 let copy = copy_plain(alloc, &self.members)?;
