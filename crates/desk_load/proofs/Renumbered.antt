@@ -1,5 +1,5 @@
 -- Rows, lists and weights by numbers, of which one more or one less is there.
-use Rattle.std.proofs.Common.{◌≡◌, ℕ, zero, suc, ◌+◌, ◌<◌, ◌≤◌, Bool, true, false, cond, ◌||◌, ◌==◌, nat_lt, List, [], ◌∷◌, ◌++◌, map, length, get_or, take, drop, None, ◌⊎◌, inl, inr, refl, sym, ap, ◌∙◌, subst, arith}
+use Rattle.std.proofs.Common.{◌≡◌, ℕ, zero, suc, ◌<◌, ◌≤◌, Bool, true, false, cond, ◌||◌, ◌==◌, nat_lt, List, [], ◌∷◌, ◌++◌, map, length, get_or, None, inl, inr, refl, sym, ap, ◌∙◌, subst, arith}
 use Rattle.std.proofs.lemmas.Bool.{false≢true}
 use Rattle.std.proofs.lemmas.Bool.Decides.{nat_tests}
 use Rattle.std.proofs.lemmas.List.{map-append}
@@ -19,8 +19,8 @@ use Rattle.desk_base.proofs.lists.Filtered.{all_pass, none_pass}
 use Rattle.desk_base.proofs.lists.Cuts.{before_point}
 use Rattle.desk_load.specs.declared.lists.BookingList.{BookingList}
 use Rattle.desk_load.specs.Lists.{lists_of}
-use Rattle.desk_load.proofs.Numbers.{filter_same, map_map, map_itself}
-use Rattle.desk_load.proofs.Grouped.{numbers_with, map_filter, sorted_filter, less_trans, not_over, is_under, not_itself, after_point, equal, list_of}
+use Rattle.desk_load.proofs.Numbers.{filter_same}
+use Rattle.desk_load.proofs.Grouped.{numbers_with, map_filter, sorted_filter, less_trans, not_over, is_under, not_itself, after_point, list_of}
 use Rattle.desk_load.proofs.Following.{found_none}
 use Rattle.desk_load.proofs.OneBooking.{then_lt, lt_is}
 
