@@ -47,8 +47,7 @@ use Rattle.desk_load.proofs.Listing.{lists_climb}
 use Rattle.desk_load.proofs.Numbers.{keys_climb, map_map, map_itself}
 use Rattle.desk_load.proofs.Reading.{under}
 use Rattle.desk_load.proofs.Reweighed.{is_found, found_own}
-use Rattle.desk_load.proofs.Grouped.{numbers_with, numbers_stay, numbers_rise_with, named_in, list_of}
-use Rattle.desk_load.proofs.Renumbered.{numbers_without, resource_below, ids_taken, ids_put, numbers_rise_without, in-off, off_numbers, with_numbers, lists_off, lists_with}
+use Rattle.desk_load.proofs.Renumbered.{numbers_with, numbers_stay, numbers_rise_with, named_in, list_of, numbers_without, resource_below, ids_taken, ids_put, numbers_rise_without, in-off, off_numbers, with_numbers, lists_off, lists_with}
 use Rattle.desk_load.proofs.RoomLemmas.{none_found}
 use Rattle.desk_load.proofs.Used.{joins, member_by_rows}
 
