@@ -26,7 +26,7 @@ use Rattle.desk_base.specs.meaning.Capacity.{resource_of, calendar_of, shifts_of
 use Rattle.desk_base.specs.meaning.Load.{LoadSort, plain, crew, pool, unknown, sort_of, sort_of_kind, is_crew, members, loads, effort_at, own_load, plain_load, load_by, load, weight, room_of_crew, room_by, room, ask_of, IsWithinRoom, Fits}
 use Rattle.desk_base.proofs.lists.Members.{IsIn, in-map, in-filter, in_filtered, in_mapped, contains_from_in}
 use Rattle.desk_base.proofs.lists.Filtered.{pass_both}
-use Rattle.desk_base.proofs.lists.Tests.{and_left, and_right, and-false, list_any_from, list_any_at, some_or_none, find_cases, sum_by_same}
+use Rattle.desk_base.proofs.lists.Tests.{and_left, and-false, list_any_from, list_any_at, find_cases, sum_by_same}
 use Rattle.desk_base.proofs.tables.KeyOrder.{is_key-same}
 use Rattle.desk_member.specs.Memberships.{of_member}
 use Rattle.desk_member.specs.Spans.{rows_of_group}

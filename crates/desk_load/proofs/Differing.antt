@@ -1,5 +1,5 @@
 -- Tables with a row that is put or taken out differ at its key.
-use Rattle.std.proofs.Common.{◌≡◌, Bool, true, false, cond, not, List, [], ◌∷◌, ◌++◌, map, inl, inr, refl, sym, ap, ◌∙◌}
+use Rattle.std.proofs.Common.{◌≡◌, Bool, true, cond, not, List, [], ◌∷◌, ◌++◌, map, refl, sym, ap, ◌∙◌}
 use Rattle.std.proofs.lemmas.Bool.{false≢true}
 use Rattle.std.proofs.lemmas.Cmp.{tied_back}
 use Rattle.std.proofs.lemmas.List.Elements.{filter-append}
@@ -23,7 +23,7 @@ use Rattle.desk_base.specs.asked.Acts.{change_of}
 use Rattle.desk_base.specs.asked.Refusing.{is_key}
 use Rattle.desk_base.specs.asked.Steps.{bears_on_room}
 use Rattle.desk_base.specs.changes.Changes.{is_below, rows_below, rows_above, with_one, without_one, with_row, without_row, without_key, with_change}
-use Rattle.desk_base.proofs.lists.Members.{IsIn, all_at, in-filter, in_mapped}
+use Rattle.desk_base.proofs.lists.Members.{all_at, in-filter, in_mapped}
 use Rattle.desk_base.proofs.lists.Filtered.{all_pass, none_pass}
 use Rattle.desk_base.proofs.tables.KeyOrder.{is_key-itself}
 use Rattle.desk_base.proofs.tables.KeyParts.{less_back, greater_back}

@@ -37,159 +37,14 @@ use Rattle.desk_load.proofs.Listing.{lists_climb}
 use Rattle.desk_load.proofs.Reading.{group_named}
 use Rattle.desk_load.proofs.Reweighed.{is_found, are_whole, raised_weights}
 use Rattle.desk_load.proofs.Raised.{raised_none}
-use Rattle.desk_load.proofs.Following.{found_none}
-use Rattle.desk_load.proofs.OneBooking.{then_lt, lt_is}
+use Rattle.desk_load.proofs.Renumbered.{numbers_with, equal, named_in, numbers_stay, numbers_rise_with, number_kept, group_below, ids_put, absent_number, list_of, inserted_lists}
 
 abbrev group_key : GroupRow → Key
 group_key g = key_of (Group g)
 
--- ---- numbers with one more
-
--- the numbers below one, it, and those above it
-abbrev pub numbers_with : ℕ → List ℕ → List ℕ
-numbers_with n ns = filter (λ k. nat_lt k n) ns ++ n ∷ filter (λ k. nat_lt n k) ns
-
-pub map_filter : {A B : Type 0} (f : A → B) (p : B → Bool) (xs : List A) → map f (filter (λ x. p (f x)) xs) ≡ filter p (map f xs)
-map_filter f p [] = refl
-map_filter f p (x ∷ xs) = step (p (f x)) (map_filter f p xs)
-  where
-    step : (b : Bool) → map f (filter (λ y. p (f y)) xs) ≡ filter p (map f xs) → map f (cond b (x ∷ filter (λ y. p (f y)) xs) (filter (λ y. p (f y)) xs)) ≡ cond b (f x ∷ filter p (map f xs)) (filter p (map f xs))
-    step true h = ap (λ l. f x ∷ l) h
-    step false h = h
-
-below_is : (m n : ℕ) → is_below (id_key GroupTable m) (id_key GroupTable n) ≡ nat_lt m n
-below_is m n = then_lt (nat_cmp m n) ∙ lt_is m n
-
 -- the numbers of groups with one more
 pub numbers_of : (g : GroupRow) (gs : List GroupRow) → map (λ (y : GroupRow). y.id) (with_one group_key g gs) ≡ numbers_with g.id (map (λ (y : GroupRow). y.id) gs)
-unfolding with_one
-numbers_of g gs =
-    let a = filter_same (λ (y : GroupRow). is_below (group_key y) (group_key g)) (λ (y : GroupRow). nat_lt y.id g.id) gs (λ y. below_is y.id g.id) in
-    let b = filter_same (λ (y : GroupRow). is_below (group_key g) (group_key y)) (λ (y : GroupRow). nat_lt g.id y.id) gs (λ y. below_is g.id y.id) in
-    let c = ap (map (λ (y : GroupRow). y.id)) a ∙ map_filter (λ (y : GroupRow). y.id) (λ k. nat_lt k g.id) gs in
-    let d = ap (map (λ (y : GroupRow). y.id)) b ∙ map_filter (λ (y : GroupRow). y.id) (λ k. nat_lt g.id k) gs in
-    map-append (λ (y : GroupRow). y.id) (rows_below group_key (group_key g) gs) (g ∷ rows_above group_key (group_key g) gs) ∙ (λ i. c i ++ g.id ∷ d i)
-
-pub is_under : (a b : ℕ) → nat_cmp a b ≡ Less → nat_lt a b ≡ true
-is_under a b e = grind (arith, nat_tests)
-
-pub not_over : (a b : ℕ) → nat_cmp a b ≡ Less → nat_lt b a ≡ false
-not_over a b e = grind (arith, nat_tests)
-
-pub not_itself : (a : ℕ) → nat_lt a a ≡ false
-not_itself a = grind (arith, nat_tests)
-
-pub equal : (a b : ℕ) → (a == b) ≡ true → a ≡ b
-equal a b e = grind (arith, nat_tests)
-
-pub same : (a b : ℕ) → a ≡ b → (a == b) ≡ true
-same a b e = grind (arith, nat_tests)
-
-pub less_is : (a b : ℕ) → nat_lt a b ≡ true → nat_cmp a b ≡ Less
-less_is a b e = grind (arith, nat_tests)
-
-pub named_in : (n : ℕ) (ns : List ℕ) → list_any (λ k. k == n) ns ≡ true → IsIn n ns
-named_in n [] e = absurd (false≢true e)
-named_in n (k ∷ ks) e = step (k == n) refl e (named_in n ks)
-  where
-    step : (b : Bool) → (k == n) ≡ b → (b || list_any (λ j. j == n) ks) ≡ true → (list_any (λ j. j == n) ks ≡ true → IsIn n ks) → IsIn n (k ∷ ks)
-    step true f g h = inl (sym (equal k n f))
-    step false f g h = inr (h g)
-
--- a number that is there is there once
-pub numbers_stay : (n : ℕ) (ns : List ℕ) → IsStrictlySortedBy nat_cmp ns → IsIn n ns → numbers_with n ns ≡ ns
-unfolding IsStrictlySortedBy
-numbers_stay n [] s i = absurd i
-numbers_stay n (k ∷ ks) s (inl e) =
-    let lower = ap (λ c. cond c (k ∷ filter (λ j. nat_lt j n) ks) (filter (λ j. nat_lt j n) ks)) (ap (λ m. nat_lt k m) e ∙ not_itself k) ∙ none_pass (λ j. nat_lt j n) ks (λ j l. ap (nat_lt j) e ∙ not_over k j (all_at (λ m. nat_cmp k m ≡ Less) ks j s.0 l)) in
-    let upper = ap (λ c. cond c (k ∷ filter (λ j. nat_lt n j) ks) (filter (λ j. nat_lt n j) ks)) (ap (λ m. nat_lt m k) e ∙ not_itself k) ∙ all_pass (λ j. nat_lt n j) ks (λ j l. ap (λ m. nat_lt m j) e ∙ is_under k j (all_at (λ m. nat_cmp k m ≡ Less) ks j s.0 l)) in
-    (λ i. lower i ++ n ∷ upper i) ∙ ap (λ m. m ∷ ks) e
-numbers_stay n (k ∷ ks) s (inr i) =
-    let under = all_at (λ m. nat_cmp k m ≡ Less) ks n s.0 i in
-    let lower = ap (λ c. cond c (k ∷ filter (λ j. nat_lt j n) ks) (filter (λ j. nat_lt j n) ks)) (is_under k n under) in
-    let upper = ap (λ c. cond c (k ∷ filter (λ j. nat_lt n j) ks) (filter (λ j. nat_lt n j) ks)) (not_over k n under) in
-    (λ i. lower i ++ n ∷ upper i) ∙ ap (λ l. k ∷ l) (numbers_stay n ks s.1 i)
-
-pub sorted_filter : (p : ℕ → Bool) (ns : List ℕ) → IsStrictlySortedBy nat_cmp ns → IsStrictlySortedBy nat_cmp (filter p ns)
-unfolding IsStrictlySortedBy
-sorted_filter p [] s = tt
-sorted_filter p (k ∷ ks) s = step (p k) (sorted_filter p ks s.1)
-  where
-    step : (b : Bool) → IsStrictlySortedBy nat_cmp (filter p ks) → IsStrictlySortedBy nat_cmp (cond b (k ∷ filter p ks) (filter p ks))
-    step false r = r
-    step true r = (all_from (λ j. nat_cmp k j ≡ Less) (filter p ks) (λ j i. all_at (λ m. nat_cmp k m ≡ Less) ks j s.0 (in-filter p j ks i).0), r)
-
-pub less_trans : (a b c : ℕ) → nat_lt a b ≡ true → nat_lt b c ≡ true → nat_cmp a c ≡ Less
-less_trans a b c e f = grind (arith, nat_tests)
-
-pub numbers_rise_with : (n : ℕ) (ns : List ℕ) → IsStrictlySortedBy nat_cmp ns → IsStrictlySortedBy nat_cmp (numbers_with n ns)
-unfolding IsStrictlySortedBy
-numbers_rise_with n ns s =
-    let lower = filter (λ k. nat_lt k n) ns in
-    let upper = filter (λ k. nat_lt n k) ns in
-    sorted-append nat_cmp lower (n ∷ upper) (sorted_filter (λ k. nat_lt k n) ns s)
-    (all_from (λ k. nat_cmp n k ≡ Less) upper (λ k i. less_is n k (in-filter (λ k. nat_lt n k) k ns i).1), sorted_filter (λ k. nat_lt n k) ns s)
-    (λ x y i j. elim j [
-      | inl e ↦ subst (λ m. nat_cmp x m ≡ Less) (sym e) (less_is x n (in-filter (λ k. nat_lt k n) x ns i).1)
-      | inr k ↦ less_trans x n y (in-filter (λ k. nat_lt k n) x ns i).1 (in-filter (λ k. nat_lt n k) y ns k).1
-    ])
-
--- none is lost
-pub number_kept : (m n : ℕ) (ns : List ℕ) → list_any (λ k. k == m) ns ≡ true → list_any (λ k. k == m) (numbers_with n ns) ≡ true
-number_kept m n ns e = named m (numbers_with n ns) (kept (nat_lt m n) refl (nat_lt n m) refl (named_in m ns e))
-  where
-    named : (m : ℕ) (ns : List ℕ) → IsIn m ns → list_any (λ k. k == m) ns ≡ true
-    named m [] i = absurd i
-    named m (k ∷ ks) (inl e) = ap (λ b. b || list_any (λ j. j == m) ks) (same k m (sym e))
-    named m (k ∷ ks) (inr i) = step (k == m) (named m ks i)
-      where
-        step : (b : Bool) → list_any (λ j. j == m) ks ≡ true → (b || list_any (λ j. j == m) ks) ≡ true
-        step true h = refl
-        step false h = h
-
-    neither : nat_lt m n ≡ false → nat_lt n m ≡ false → m ≡ n
-    neither a b = grind (arith, nat_tests)
-
-    kept : (b : Bool) → nat_lt m n ≡ b → (c : Bool) → nat_lt n m ≡ c → IsIn m ns → IsIn m (numbers_with n ns)
-    kept true f c g i = in_left m (filter (λ k. nat_lt k n) ns) (n ∷ filter (λ k. nat_lt n k) ns) (in_filtered (λ k. nat_lt k n) m ns i f)
-    kept false f true g i = in_right m (filter (λ k. nat_lt k n) ns) (n ∷ filter (λ k. nat_lt n k) ns) (inr (in_filtered (λ k. nat_lt n k) m ns i g))
-    kept false f false g i = in_right m (filter (λ k. nat_lt k n) ns) (n ∷ filter (λ k. nat_lt n k) ns) (inl (neither f g))
-
--- ---- the list of a new group
-
-above_other : (a n : ℕ) → nat_lt a n ≡ false → (a == n) ≡ false → nat_lt n a ≡ true
-above_other a n e f = grind (arith, nat_tests)
-
-over_not : (a n : ℕ) → nat_lt a n ≡ true → nat_lt n a ≡ false
-over_not a n e = grind (arith, nat_tests)
-
--- the rows from the point on, where none has the number
-pub after_point : {A : Type 0} (f : A → ℕ) (n : ℕ) (xs : List A) (at : ℕ) → at ≤ length xs → IsPartitionPoint (λ y. nat_lt (f y) n ≡ true) (λ y. nat_lt (f y) n ≡ false) xs at → ((x : A) → IsIn x xs → (f x == n) ≡ false) → drop at xs ≡ filter (λ y. nat_lt n (f y)) xs
-after_point f n [] zero l p o = refl
-after_point f n [] (suc at) l p o = refl
-after_point {A} f n (x ∷ xs) zero l p o =
-    sym (all_pass (λ y. nat_lt n (f y)) (x ∷ xs) (λ y i. above_other (f y) n (each (x ∷ xs) (λ k d m. p.1 k d (omega arith) m) y i) (o y i)))
-  where
-    each : (ys : List A) → ((k : ℕ) (d : A) → k < length ys → nat_lt (f (get_or ys k d)) n ≡ false) → (y : A) → IsIn y ys → nat_lt (f y) n ≡ false
-    each [] h y i = absurd i
-    each (z ∷ zs) h y (inl e) = ap (λ w. nat_lt (f w) n) e ∙ h 0 z (omega arith)
-    each (z ∷ zs) h y (inr i) = each zs (λ k d m. h (suc k) d (omega arith)) y i
-after_point f n (x ∷ xs) (suc at) l p o =
-    let e : nat_lt (f x) n ≡ true = p.0 0 x (omega arith) (omega arith) in
-    after_point f n xs at (omega arith) ((λ k d a b. p.0 (suc k) d (omega arith) (omega arith)), (λ k d a b. p.1 (suc k) d (omega arith) (omega arith))) (λ y i. o y (inr i))
-    ∙ sym (ap (λ b. cond b (x ∷ filter (λ y. nat_lt n (f y)) xs) (filter (λ y. nat_lt n (f y)) xs)) (over_not (f x) n e))
-
-abbrev pub list_of : (BookingRow → ℕ) → List BookingRow → ℕ → BookingList
-list_of f bs n = record { number = n; bookings = filter (owns f n) bs }
-
--- the lists with an empty one at the point
-pub inserted_lists : (f : BookingRow → ℕ) (n : ℕ) (ns : List ℕ) (bs : List BookingRow) (lists : List BookingList) (at : ℕ) → lists ≡ lists_of f ns bs → at ≤ length lists → IsPartitionPoint (λ (l : BookingList). nat_lt l.number n ≡ true) (λ (l : BookingList). nat_lt l.number n ≡ false) lists at
-    → ((l : BookingList) → IsIn l lists → (l.number == n) ≡ false) → filter (owns f n) bs ≡ [] → insert lists at (record { number = n; bookings = [] }) ≡ lists_of f (numbers_with n ns) bs
-inserted_lists f n ns bs lists at e l p o none =
-    let a = before_point (λ (l : BookingList). nat_lt l.number n) lists at l p ∙ ap (filter (λ (l : BookingList). nat_lt l.number n)) e ∙ sym (map_filter (list_of f bs) (λ (l : BookingList). nat_lt l.number n) ns) in
-    let b = after_point (λ (l : BookingList). l.number) n lists at l p o ∙ ap (filter (λ (l : BookingList). nat_lt n l.number)) e ∙ sym (map_filter (list_of f bs) (λ (l : BookingList). nat_lt n l.number) ns) in
-    (λ i. a i ++ record { number = n; bookings = sym none i } ∷ b i)
-    ∙ sym (map-append (list_of f bs) (filter (λ k. nat_lt k n) ns) (n ∷ filter (λ k. nat_lt n k) ns))
+numbers_of g gs = ids_put (λ (y : GroupRow). y.id) group_key g (λ y. group_below y.id g.id) (λ y. group_below g.id y.id) gs
 
 -- ---- stages
 
@@ -234,10 +89,6 @@ group_stands t s more i g h l f =
     let rise : IsStrictlySortedBy nat_cmp (group_numbers s) = subst (IsStrictlySortedBy nat_cmp) numbers h.order.2 in
     regrouped t s more i i g h refl refl refl (h.index.booked ∙ ap (λ ns. lists_of (λ (b : BookingRow). b.group) ns s.bookings) (sym (numbers_stay g.id (group_numbers s) rise (named_in g.id (group_numbers s) there))))
 
-pub other_number : (f : BookingList → ℕ) (n : ℕ) (xs : List BookingList) (x : BookingList) → find (owns f n) xs ≡ None → IsIn x xs → (b : Bool) → (f x == n) ≡ b → b ≡ false
-other_number f n xs x e i true g = absurd (found_none (owns f n) xs x e i g)
-other_number f n xs x e i false g = refl
-
 -- a group that is new is put, and has no booking
 pub group_added : (t s : Tables) (more : ℕ) (i j : IndexParts) (g : GroupRow) (at : ℕ) → AreWellFormed t → IsStage t s 0 more i → find (owns (λ (l : BookingList). l.number) g.id) i.booked ≡ None → at ≤ length i.booked
     → IsPartitionPoint (λ (l : BookingList). nat_lt l.number g.id ≡ true) (λ (l : BookingList). nat_lt l.number g.id ≡ false) i.booked at
@@ -246,7 +97,7 @@ group_added t s more i j g at w h f l p a b c d =
     let numbers = listed_numbers s i.booked h.index.booked in
     let new : list_any (λ k. k == g.id) (group_numbers s) ≡ false = ap (list_any (λ k. k == g.id)) (sym numbers) ∙ sym (is_found (λ (l : BookingList). l.number) g.id i.booked) ∙ ap is_some f in
     let none : filter (owns (λ (b : BookingRow). b.group) g.id) s.bookings ≡ [] = none_pass (owns (λ (b : BookingRow). b.group) g.id) s.bookings (λ x k. unbooked t s more i g h w new x k (x.group == g.id) refl) in
-    regrouped t s more i j g h a b c (d ∙ inserted_lists (λ (b : BookingRow). b.group) g.id (group_numbers s) s.bookings i.booked at h.index.booked l p (λ x k. other_number (λ (l : BookingList). l.number) g.id i.booked x f k (x.number == g.id) refl) none)
+    regrouped t s more i j g h a b c (d ∙ inserted_lists (λ (b : BookingRow). b.group) g.id (group_numbers s) s.bookings i.booked at h.index.booked l p (absent_number (λ (l : BookingList). l.number) g.id i.booked f) none)
   where
     unbooked : (t s : Tables) (more : ℕ) (i : IndexParts) (g : GroupRow) → IsStage t s 0 more i → AreWellFormed t → list_any (λ k. k == g.id) (group_numbers s) ≡ false → (x : BookingRow) → IsIn x s.bookings → (c : Bool) → (x.group == g.id) ≡ c → c ≡ false
     unbooked t s more i g h w new x k false e = refl

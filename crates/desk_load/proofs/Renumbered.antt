@@ -1,5 +1,5 @@
 -- Rows, lists and weights by numbers, of which one more or one less is there.
-use Rattle.std.proofs.Common.{◌≡◌, ℕ, zero, suc, ◌+◌, ◌<◌, ◌≤◌, Bool, true, false, cond, ◌||◌, ◌==◌, nat_lt, List, [], ◌∷◌, ◌++◌, map, length, get_or, take, drop, None, ◌⊎◌, inl, inr, refl, sym, ap, ◌∙◌, subst, arith}
+use Rattle.std.proofs.Common.{drop, ◌≡◌, ℕ, zero, suc, ◌<◌, ◌≤◌, Bool, true, false, cond, ◌||◌, ◌==◌, nat_lt, List, [], ◌∷◌, ◌++◌, map, length, get_or, None, inl, inr, refl, sym, ap, ◌∙◌, subst, arith}
 use Rattle.std.proofs.lemmas.Bool.{false≢true}
 use Rattle.std.proofs.lemmas.Bool.Decides.{nat_tests}
 use Rattle.std.proofs.lemmas.List.{map-append}
@@ -14,17 +14,142 @@ use Rattle.desk_base.specs.declared.rows.bookings.BookingRow.{BookingRow}
 use Rattle.desk_base.specs.rows.Keys.{id_key}
 use Rattle.desk_base.specs.rows.Ranges.{owns}
 use Rattle.desk_base.specs.changes.Changes.{is_below, rows_below, rows_above, with_one, without_one}
-use Rattle.desk_base.proofs.lists.Members.{IsIn, all_at, in-append, in-filter, in_mapped, sorted-append}
+use Rattle.desk_base.proofs.lists.Members.{IsIn, all_at, in-append, in-filter, in_mapped, sorted-append, all_from, in_left, in_right, in_filtered}
 use Rattle.desk_base.proofs.lists.Filtered.{all_pass, none_pass}
 use Rattle.desk_base.proofs.lists.Cuts.{before_point}
 use Rattle.desk_load.specs.declared.lists.BookingList.{BookingList}
 use Rattle.desk_load.specs.Lists.{lists_of}
-use Rattle.desk_load.proofs.Numbers.{filter_same, map_map, map_itself}
-use Rattle.desk_load.proofs.Grouped.{numbers_with, map_filter, sorted_filter, less_trans, not_over, is_under, not_itself, after_point, equal, list_of}
+use Rattle.desk_load.proofs.Numbers.{filter_same}
 use Rattle.desk_load.proofs.Following.{found_none}
 use Rattle.desk_load.proofs.OneBooking.{then_lt, lt_is}
 
--- ---- numbers
+over_not : (m n : ℕ) → nat_lt m n ≡ true → nat_lt n m ≡ false
+over_not m n e = grind (arith, nat_tests)
+
+-- ---- numbers with one more
+
+-- the numbers below one, it, and those above it
+abbrev pub numbers_with : ℕ → List ℕ → List ℕ
+numbers_with n ns = filter (λ k. nat_lt k n) ns ++ n ∷ filter (λ k. nat_lt n k) ns
+
+pub map_filter : {A B : Type 0} (f : A → B) (p : B → Bool) (xs : List A) → map f (filter (λ x. p (f x)) xs) ≡ filter p (map f xs)
+map_filter f p [] = refl
+map_filter f p (x ∷ xs) = step (p (f x)) (map_filter f p xs)
+  where
+    step : (b : Bool) → map f (filter (λ y. p (f y)) xs) ≡ filter p (map f xs) → map f (cond b (x ∷ filter (λ y. p (f y)) xs) (filter (λ y. p (f y)) xs)) ≡ cond b (f x ∷ filter p (map f xs)) (filter p (map f xs))
+    step true h = ap (λ l. f x ∷ l) h
+    step false h = h
+
+pub is_under : (a b : ℕ) → nat_cmp a b ≡ Less → nat_lt a b ≡ true
+is_under a b e = grind (arith, nat_tests)
+
+pub not_over : (a b : ℕ) → nat_cmp a b ≡ Less → nat_lt b a ≡ false
+not_over a b e = grind (arith, nat_tests)
+
+pub not_itself : (a : ℕ) → nat_lt a a ≡ false
+not_itself a = grind (arith, nat_tests)
+
+pub equal : (a b : ℕ) → (a == b) ≡ true → a ≡ b
+equal a b e = grind (arith, nat_tests)
+
+pub same : (a b : ℕ) → a ≡ b → (a == b) ≡ true
+same a b e = grind (arith, nat_tests)
+
+pub less_is : (a b : ℕ) → nat_lt a b ≡ true → nat_cmp a b ≡ Less
+less_is a b e = grind (arith, nat_tests)
+
+pub named_in : (n : ℕ) (ns : List ℕ) → list_any (λ k. k == n) ns ≡ true → IsIn n ns
+named_in n [] e = absurd (false≢true e)
+named_in n (k ∷ ks) e = step (k == n) refl e (named_in n ks)
+  where
+    step : (b : Bool) → (k == n) ≡ b → (b || list_any (λ j. j == n) ks) ≡ true → (list_any (λ j. j == n) ks ≡ true → IsIn n ks) → IsIn n (k ∷ ks)
+    step true f g h = inl (sym (equal k n f))
+    step false f g h = inr (h g)
+
+-- a number that is there is there once
+pub numbers_stay : (n : ℕ) (ns : List ℕ) → IsStrictlySortedBy nat_cmp ns → IsIn n ns → numbers_with n ns ≡ ns
+unfolding IsStrictlySortedBy
+numbers_stay n [] s i = absurd i
+numbers_stay n (k ∷ ks) s (inl e) =
+    let lower = ap (λ c. cond c (k ∷ filter (λ j. nat_lt j n) ks) (filter (λ j. nat_lt j n) ks)) (ap (λ m. nat_lt k m) e ∙ not_itself k) ∙ none_pass (λ j. nat_lt j n) ks (λ j l. ap (nat_lt j) e ∙ not_over k j (all_at (λ m. nat_cmp k m ≡ Less) ks j s.0 l)) in
+    let upper = ap (λ c. cond c (k ∷ filter (λ j. nat_lt n j) ks) (filter (λ j. nat_lt n j) ks)) (ap (λ m. nat_lt m k) e ∙ not_itself k) ∙ all_pass (λ j. nat_lt n j) ks (λ j l. ap (λ m. nat_lt m j) e ∙ is_under k j (all_at (λ m. nat_cmp k m ≡ Less) ks j s.0 l)) in
+    (λ i. lower i ++ n ∷ upper i) ∙ ap (λ m. m ∷ ks) e
+numbers_stay n (k ∷ ks) s (inr i) =
+    let under = all_at (λ m. nat_cmp k m ≡ Less) ks n s.0 i in
+    let lower = ap (λ c. cond c (k ∷ filter (λ j. nat_lt j n) ks) (filter (λ j. nat_lt j n) ks)) (is_under k n under) in
+    let upper = ap (λ c. cond c (k ∷ filter (λ j. nat_lt n j) ks) (filter (λ j. nat_lt n j) ks)) (not_over k n under) in
+    (λ i. lower i ++ n ∷ upper i) ∙ ap (λ l. k ∷ l) (numbers_stay n ks s.1 i)
+
+pub sorted_filter : (p : ℕ → Bool) (ns : List ℕ) → IsStrictlySortedBy nat_cmp ns → IsStrictlySortedBy nat_cmp (filter p ns)
+unfolding IsStrictlySortedBy
+sorted_filter p [] s = tt
+sorted_filter p (k ∷ ks) s = step (p k) (sorted_filter p ks s.1)
+  where
+    step : (b : Bool) → IsStrictlySortedBy nat_cmp (filter p ks) → IsStrictlySortedBy nat_cmp (cond b (k ∷ filter p ks) (filter p ks))
+    step false r = r
+    step true r = (all_from (λ j. nat_cmp k j ≡ Less) (filter p ks) (λ j i. all_at (λ m. nat_cmp k m ≡ Less) ks j s.0 (in-filter p j ks i).0), r)
+
+pub less_trans : (a b c : ℕ) → nat_lt a b ≡ true → nat_lt b c ≡ true → nat_cmp a c ≡ Less
+less_trans a b c e f = grind (arith, nat_tests)
+
+pub numbers_rise_with : (n : ℕ) (ns : List ℕ) → IsStrictlySortedBy nat_cmp ns → IsStrictlySortedBy nat_cmp (numbers_with n ns)
+unfolding IsStrictlySortedBy
+numbers_rise_with n ns s =
+    let lower = filter (λ k. nat_lt k n) ns in
+    let upper = filter (λ k. nat_lt n k) ns in
+    sorted-append nat_cmp lower (n ∷ upper) (sorted_filter (λ k. nat_lt k n) ns s)
+    (all_from (λ k. nat_cmp n k ≡ Less) upper (λ k i. less_is n k (in-filter (λ k. nat_lt n k) k ns i).1), sorted_filter (λ k. nat_lt n k) ns s)
+    (λ x y i j. elim j [
+      | inl e ↦ subst (λ m. nat_cmp x m ≡ Less) (sym e) (less_is x n (in-filter (λ k. nat_lt k n) x ns i).1)
+      | inr k ↦ less_trans x n y (in-filter (λ k. nat_lt k n) x ns i).1 (in-filter (λ k. nat_lt n k) y ns k).1
+    ])
+
+-- none is lost
+pub number_kept : (m n : ℕ) (ns : List ℕ) → list_any (λ k. k == m) ns ≡ true → list_any (λ k. k == m) (numbers_with n ns) ≡ true
+number_kept m n ns e = named m (numbers_with n ns) (kept (nat_lt m n) refl (nat_lt n m) refl (named_in m ns e))
+  where
+    named : (m : ℕ) (ns : List ℕ) → IsIn m ns → list_any (λ k. k == m) ns ≡ true
+    named m [] i = absurd i
+    named m (k ∷ ks) (inl e) = ap (λ b. b || list_any (λ j. j == m) ks) (same k m (sym e))
+    named m (k ∷ ks) (inr i) = step (k == m) (named m ks i)
+      where
+        step : (b : Bool) → list_any (λ j. j == m) ks ≡ true → (b || list_any (λ j. j == m) ks) ≡ true
+        step true h = refl
+        step false h = h
+
+    neither : nat_lt m n ≡ false → nat_lt n m ≡ false → m ≡ n
+    neither a b = grind (arith, nat_tests)
+
+    kept : (b : Bool) → nat_lt m n ≡ b → (c : Bool) → nat_lt n m ≡ c → IsIn m ns → IsIn m (numbers_with n ns)
+    kept true f c g i = in_left m (filter (λ k. nat_lt k n) ns) (n ∷ filter (λ k. nat_lt n k) ns) (in_filtered (λ k. nat_lt k n) m ns i f)
+    kept false f true g i = in_right m (filter (λ k. nat_lt k n) ns) (n ∷ filter (λ k. nat_lt n k) ns) (inr (in_filtered (λ k. nat_lt n k) m ns i g))
+    kept false f false g i = in_right m (filter (λ k. nat_lt k n) ns) (n ∷ filter (λ k. nat_lt n k) ns) (inl (neither f g))
+
+-- ---- rows by their numbers
+
+above_other : (a n : ℕ) → nat_lt a n ≡ false → (a == n) ≡ false → nat_lt n a ≡ true
+above_other a n e f = grind (arith, nat_tests)
+
+-- the rows from the point on, where none has the number
+pub after_point : {A : Type 0} (f : A → ℕ) (n : ℕ) (xs : List A) (at : ℕ) → at ≤ length xs → IsPartitionPoint (λ y. nat_lt (f y) n ≡ true) (λ y. nat_lt (f y) n ≡ false) xs at → ((x : A) → IsIn x xs → (f x == n) ≡ false) → drop at xs ≡ filter (λ y. nat_lt n (f y)) xs
+after_point f n [] zero l p o = refl
+after_point f n [] (suc at) l p o = refl
+after_point {A} f n (x ∷ xs) zero l p o =
+    sym (all_pass (λ y. nat_lt n (f y)) (x ∷ xs) (λ y i. above_other (f y) n (each (x ∷ xs) (λ k d m. p.1 k d (omega arith) m) y i) (o y i)))
+  where
+    each : (ys : List A) → ((k : ℕ) (d : A) → k < length ys → nat_lt (f (get_or ys k d)) n ≡ false) → (y : A) → IsIn y ys → nat_lt (f y) n ≡ false
+    each [] h y i = absurd i
+    each (z ∷ zs) h y (inl e) = ap (λ w. nat_lt (f w) n) e ∙ h 0 z (omega arith)
+    each (z ∷ zs) h y (inr i) = each zs (λ k d m. h (suc k) d (omega arith)) y i
+after_point f n (x ∷ xs) (suc at) l p o =
+    let e : nat_lt (f x) n ≡ true = p.0 0 x (omega arith) (omega arith) in
+    after_point f n xs at (omega arith) ((λ k d a b. p.0 (suc k) d (omega arith) (omega arith)), (λ k d a b. p.1 (suc k) d (omega arith) (omega arith))) (λ y i. o y (inr i))
+    ∙ sym (ap (λ b. cond b (x ∷ filter (λ y. nat_lt n (f y)) xs) (filter (λ y. nat_lt n (f y)) xs)) (over_not (f x) n e))
+
+abbrev pub list_of : (BookingRow → ℕ) → List BookingRow → ℕ → BookingList
+list_of f bs n = record { number = n; bookings = filter (owns f n) bs }
+
+-- ---- numbers without one
 
 -- the numbers without one
 abbrev pub numbers_without : ℕ → List ℕ → List ℕ
@@ -63,9 +188,6 @@ numbers_rise_without n ns s =
 
 neither : (m n : ℕ) → nat_lt m n ≡ false → (m == n) ≡ false → nat_lt n m ≡ true
 neither m n e f = grind (arith, nat_tests)
-
-over_not : (m n : ℕ) → nat_lt m n ≡ true → nat_lt n m ≡ false
-over_not m n e = grind (arith, nat_tests)
 
 above_all : (n k j : ℕ) → nat_lt n k ≡ true → nat_cmp k j ≡ Less → nat_lt n j ≡ true
 above_all n k j e f = grind (arith, nat_tests)
@@ -117,13 +239,6 @@ removed_is {A} f n (x ∷ xs) (suc at) d l s e =
     in_at (y ∷ ys) zero l = inl refl
     in_at (y ∷ ys) (suc at) l = inr (in_at ys at (omega arith))
 
-module _ {A : Type 0} (f : A → ℕ) (n : ℕ) (xs : List A) (at : ℕ) (d : A) (l : at < length xs) (s : IsStrictlySortedBy nat_cmp (map f xs)) (e : f (get_or xs at d) ≡ n) where
-  pub removed_numbers : map f (remove xs at) ≡ numbers_without n (map f xs)
-  removed_numbers =
-      let a = map_filter f (λ k. nat_lt k n) xs in
-      let b = map_filter f (λ k. nat_lt n k) xs in
-      ap (map f) (removed_is f n xs at d l s e) ∙ map-append f (filter (λ x. nat_lt (f x) n) xs) (filter (λ x. nat_lt n (f x)) xs) ∙ (λ i. a i ++ b i)
-
 low_other : (a b : ℕ) → nat_lt a b ≡ true → (a == b) ≡ false
 low_other a b g = grind (arith, nat_tests)
 
@@ -166,12 +281,15 @@ pub removed_off : {A : Type 0} (f : A → ℕ) (n : ℕ) (xs : List A) (at : ℕ
 removed_off f n [] at l s e = absurd (omega arith)
 removed_off f n (x ∷ xs) at l s e = removed_is f n (x ∷ xs) at x l s (e x)
 
--- the lists of numbers without the one at a place
+-- the numbers, and the lists of numbers, without the one at a place
+pub removed_numbers : {A : Type 0} (f : A → ℕ) (n : ℕ) (xs : List A) (at : ℕ) (d : A) → at < length xs → IsStrictlySortedBy nat_cmp (map f xs) → f (get_or xs at d) ≡ n → map f (remove xs at) ≡ numbers_without n (map f xs)
+removed_numbers f n xs at d l s e = ap (map f) (removed_is f n xs at d l s e) ∙ off_numbers f n xs
+
 pub lists_removed : (f : BookingRow → ℕ) (n : ℕ) (ns : List ℕ) (bs : List BookingRow) (lists : List BookingList) (at : ℕ) (d : BookingList) → lists ≡ lists_of f ns bs → IsStrictlySortedBy nat_cmp (map (λ (l : BookingList). l.number) lists) → at < length lists → (get_or lists at d).number ≡ n → remove lists at ≡ lists_of f (numbers_without n ns) bs
 lists_removed f n ns bs lists at d e s l g =
-    let a = ap (filter (λ (l : BookingList). nat_lt l.number n)) e ∙ sym (map_filter (list_of f bs) (λ (l : BookingList). nat_lt l.number n) ns) in
-    let b = ap (filter (λ (l : BookingList). nat_lt n l.number)) e ∙ sym (map_filter (list_of f bs) (λ (l : BookingList). nat_lt n l.number) ns) in
-    removed_is (λ (l : BookingList). l.number) n lists at d l s g ∙ (λ i. a i ++ b i) ∙ sym (map-append (list_of f bs) (filter (λ k. nat_lt k n) ns) (filter (λ k. nat_lt n k) ns))
+    removed_is (λ (l : BookingList). l.number) n lists at d l s g
+    ∙ (λ i. filter (λ (l : BookingList). nat_lt l.number n) (e i) ++ filter (λ (l : BookingList). nat_lt n l.number) (e i))
+    ∙ lists_off f n ns bs
 
 -- where none is found, each has another number
 pub absent_number : {A : Type 0} (f : A → ℕ) (n : ℕ) (xs : List A) → find (owns f n) xs ≡ None → (y : A) → IsIn y xs → (f y == n) ≡ false
@@ -191,3 +309,11 @@ inserted_is f n xs at x l p o =
     let a = before_point (λ y. nat_lt (f y) n) xs at l p in
     let b = after_point f n xs at l p o in
     λ i. a i ++ x ∷ b i
+
+-- the lists of numbers with an empty one at the point
+pub inserted_lists : (f : BookingRow → ℕ) (n : ℕ) (ns : List ℕ) (bs : List BookingRow) (lists : List BookingList) (at : ℕ) → lists ≡ lists_of f ns bs → at ≤ length lists → IsPartitionPoint (λ (l : BookingList). nat_lt l.number n ≡ true) (λ (l : BookingList). nat_lt l.number n ≡ false) lists at
+    → ((l : BookingList) → IsIn l lists → (l.number == n) ≡ false) → filter (owns f n) bs ≡ [] → insert lists at (record { number = n; bookings = [] }) ≡ lists_of f (numbers_with n ns) bs
+inserted_lists f n ns bs lists at e l p o none =
+    inserted_is (λ (l : BookingList). l.number) n lists at (record { number = n; bookings = [] }) l p o
+    ∙ (λ i. filter (λ (l : BookingList). nat_lt l.number n) (e i) ++ record { number = n; bookings = [] } ∷ filter (λ (l : BookingList). nat_lt n l.number) (e i))
+    ∙ lists_with f n ns bs none

@@ -1,12 +1,11 @@
 -- A resource that is put or taken out: what the others weigh stays.
-use Rattle.std.proofs.Common.{◌≡◌, ℕ, ◌+◌, ◌<◌, ◌≤◌, Bool, true, false, cond, not, ◌&&◌, ◌||◌, ◌==◌, nat_lt, List, [], ◌∷◌, ◌++◌, map, length, get_or, Option, Some, None, is_some, ◌⊎◌, inl, inr, pos, refl, sym, ap, ◌∙◌, subst, arith}
+use Rattle.std.proofs.Common.{◌≡◌, ℕ, ◌+◌, Bool, true, false, cond, not, ◌&&◌, ◌||◌, ◌==◌, nat_lt, List, [], ◌∷◌, map, Some, None, is_some, ◌⊎◌, inl, inr, pos, refl, sym, ap, ◌∙◌, subst, arith}
 use Rattle.std.proofs.lemmas.Bool.{false≢true}
 use Rattle.std.proofs.lemmas.Bool.Decides.{nat_tests}
-use Rattle.std.proofs.lemmas.List.{map-append}
 use Rattle.std.proofs.lemmas.List.Sums.{sum_by-cons}
 use Rattle.std.specs.Prelude.{filter, find, sum_by}
 use Rattle.std.specs.Ordering.{nat_cmp}
-use Rattle.std.specs.List.{AllByRecursion, list_any, remove}
+use Rattle.std.specs.List.{list_any}
 use Rattle.std.specs.List.Sorted.{IsStrictlySortedBy}
 use Rattle.std.specs.Option.{option_map_or}
 use Rattle.desk_base.specs.declared.rows.tables.Tables.{Tables}
@@ -23,27 +22,24 @@ use Rattle.desk_base.specs.rows.Ranges.{owns}
 use Rattle.desk_base.specs.rows.Rows.{key_of, keys_in, citations_of}
 use Rattle.desk_base.specs.rules.Sound.{AreWellFormed}
 use Rattle.desk_base.specs.asked.Refusing.{is_key}
-use Rattle.desk_base.specs.changes.Changes.{with_row, without_row, with_one, without_one}
+use Rattle.desk_base.specs.changes.Changes.{with_row, without_row}
 use Rattle.desk_base.specs.meaning.Time.{covers}
 use Rattle.desk_base.specs.meaning.Capacity.{resource_of}
 use Rattle.desk_base.specs.meaning.Load.{LoadSort, plain, crew, pool, unknown, sort_of, sort_of_kind, is_crew, members, loads, effort_at, own_load, plain_load, load_by, load, weight, ask_of}
 use Rattle.desk_base.proofs.lists.Members.{IsIn, all_from, all_at, in-append, in-filter, in_filtered, in-map, in_mapped, contains_from_in, in_from_contains}
 use Rattle.desk_base.proofs.lists.Filtered.{none_pass}
-use Rattle.desk_base.proofs.lists.Tests.{and-false, list_any_at}
+use Rattle.desk_base.proofs.lists.Tests.{and-false}
 use Rattle.desk_base.proofs.tables.KeyOrder.{is_key-same}
 use Rattle.desk_base.proofs.tables.WithOne.{in_new}
 use Rattle.desk_member.specs.Memberships.{of_member}
-use Rattle.desk_member.proofs.SumLemmas.{sum_zeros}
-use Rattle.desk_spans.specs.Timeline.{Timeline, value_at, end_of}
 use Rattle.desk_load.specs.declared.weights.Weight.{Weight}
 use Rattle.desk_load.specs.declared.lists.BookingList.{BookingList}
-use Rattle.desk_load.specs.declared.changes.follow.Phase.TheVariants.{Closed}
 use Rattle.desk_load.specs.Parted.{IndexParts}
 use Rattle.desk_load.specs.Index.{IsWeightOf, AreWeightsOf, IsIndexOf, resource_numbers}
 use Rattle.desk_load.specs.Lists.{lists_of, list_under}
 use Rattle.desk_load.specs.Changed.{IsOrdered}
 use Rattle.desk_load.specs.Differing.{rows_beside}
-use Rattle.desk_load.specs.Joined.{rows_off, rows_with, IsNothing, IsWeightAdded}
+use Rattle.desk_load.specs.Joined.{rows_off, rows_with, IsWeightAdded}
 use Rattle.desk_load.specs.Stages.{IsUsable, IsStage}
 use Rattle.desk_load.proofs.Bearing.{found_alike}
 use Rattle.desk_load.proofs.Differing.{beside_put, beside_taken}
@@ -51,8 +47,7 @@ use Rattle.desk_load.proofs.Listing.{lists_climb}
 use Rattle.desk_load.proofs.Numbers.{keys_climb, map_map, map_itself}
 use Rattle.desk_load.proofs.Reading.{under}
 use Rattle.desk_load.proofs.Reweighed.{is_found, found_own}
-use Rattle.desk_load.proofs.Grouped.{numbers_with, numbers_stay, numbers_rise_with, named_in, map_filter, list_of}
-use Rattle.desk_load.proofs.Renumbered.{numbers_without, resource_below, ids_taken, ids_put, numbers_rise_without, in-off, off_numbers, with_numbers, lists_off, lists_with}
+use Rattle.desk_load.proofs.Renumbered.{numbers_with, numbers_stay, numbers_rise_with, named_in, list_of, numbers_without, resource_below, ids_taken, ids_put, numbers_rise_without, in-off, off_numbers, with_numbers, lists_off, lists_with}
 use Rattle.desk_load.proofs.RoomLemmas.{none_found}
 use Rattle.desk_load.proofs.Used.{joins, member_by_rows}
 

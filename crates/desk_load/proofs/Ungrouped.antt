@@ -1,5 +1,5 @@
 -- A group that is taken out: its list goes.
-use Rattle.std.proofs.Common.{◌≡◌, ℕ, ◌<◌, ◌≤◌, false, ◌==◌, List, map, length, get_or, None, is_some, pos, refl, sym, ap, ◌∙◌, subst}
+use Rattle.std.proofs.Common.{◌≡◌, ℕ, ◌<◌, false, ◌==◌, List, map, length, get_or, None, is_some, pos, refl, sym, ap, ◌∙◌, subst}
 use Rattle.std.specs.Prelude.{find}
 use Rattle.std.specs.Ordering.{nat_cmp}
 use Rattle.std.specs.List.{list_any, remove}
@@ -23,7 +23,6 @@ use Rattle.desk_load.specs.Index.{IsWeightOf, AreWeightsOf, IsIndexOf, group_num
 use Rattle.desk_load.specs.Lists.{lists_of}
 use Rattle.desk_load.specs.Changed.{IsOrdered}
 use Rattle.desk_load.proofs.Keeping.{weight_same}
-use Rattle.desk_load.proofs.Listing.{lists_climb}
 use Rattle.desk_load.proofs.Reweighed.{is_found}
 use Rattle.desk_load.proofs.Grouped.{listed_numbers}
 use Rattle.desk_load.proofs.Renumbered.{numbers_without, group_below, ids_taken, numbers_rise_without, numbers_absent, removed_numbers, lists_removed}

@@ -1,6 +1,5 @@
 use Rattle.std.proofs.Common.{rules, ◌≡◌, ◌∙◌, ℕ, ◌≤◌, true, false, nat_lt, List, length, sym, ap, subst}
 use Rattle.std.proofs.lemmas.List.Sorted.{IsPartitionPoint-from_clause}
-use Rattle.std.specs.List.{insert}
 use Rattle.std.specs.List.Sorted.{IsPartitionPoint}
 use Rattle.desk_base.specs.rows.Ranges.{Rise}
 use Rattle.desk_base.proofs.lists.Cuts.{cut_partitioned, is_below, cut_below}

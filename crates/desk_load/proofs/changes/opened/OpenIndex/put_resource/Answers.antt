@@ -1,4 +1,4 @@
-use Rattle.std.proofs.Common.{sym, ap, ◌∙◌}
+use Rattle.std.proofs.Common.{sym, ◌∙◌}
 use Rattle.desk_base.proofs.puts.KindPuts.{same_sort}
 use Rattle.desk_load.specs.Changed.{parts_of}
 use Rattle.desk_load.proofs.Resourced.{put_over}

@@ -1,4 +1,4 @@
-use Rattle.std.proofs.Common.{◌≡◌, ◌∙◌, ℕ, [], length, sym, ap, arith}
+use Rattle.std.proofs.Common.{◌∙◌, sym, ap, arith}
 use Rattle.desk_load.specs.Lists.{list_under}
 use Rattle.desk_load.specs.Changed.{parts_of}
 use Rattle.desk_load.proofs.Renumbered.{none_there}
