@@ -106,13 +106,14 @@ const OUTER_NAMES: Names = Names {
 #[tactic(auto, unfolding(crate::specs::TreeReading::inner_in))]
 fn read_inner(
     tree: Tree,
-    head: (u8, NodeKind),
+    depth: u8,
+    kind: NodeKind,
     names: &Names,
     node: &Value,
     children: &Value,
     field: Field,
 ) -> Result<Tree, BodyError>
-    ensures { IsRead (inner_in head.1 (all_names names.now) head.0 field tree (view node.now) (view children.now)) result }
+    ensures { IsRead (inner_in kind (all_names names.now) depth field tree (view node.now) (view children.now)) result }
 {
     if !children.is_array() {
         return Err(BodyError::Bad(BodyRule::Sort, field));
@@ -121,7 +122,7 @@ fn read_inner(
     if !has_only(node, names) {
         return Err(BodyError::Bad(BodyRule::Unknown, field));
     }
-    with_node(tree, head.0, head.1, same)
+    with_node(tree, depth, kind, same)
 }
 
 #[tactic(auto, unfolding(crate::specs::TreeReading::outer_in))]
@@ -163,7 +164,8 @@ fn read_node(
     if let Some(children) = node.get("all") {
         return read_inner(
             tree,
-            (depth, NodeKind::All),
+            depth,
+            NodeKind::All,
             &ALL_NAMES,
             node,
             children,
@@ -173,7 +175,8 @@ fn read_node(
     if let Some(children) = node.get("any") {
         return read_inner(
             tree,
-            (depth, NodeKind::Any),
+            depth,
+            NodeKind::Any,
             &ANY_NAMES,
             node,
             children,
