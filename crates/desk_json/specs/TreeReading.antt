@@ -121,12 +121,12 @@ with_node depth kind shared t = record { nodes = t.nodes ++ record { depth = dep
 abbrev pub with_leaf : Leaf → Tree → Tree
 with_leaf leaf t = record { nodes = t.nodes; leaves = t.leaves ++ leaf ∷ [] }
 
--- the node of an object that has children under this name, behind the nodes before it
-unfoldable pub inner_in : NodeKind → List ℕ → ℕ → Field → Tree → Data → Data → Result Tree BodyError
-inner_in kind name depth field before d children =
+-- the node of an object that has children, and no names but these, behind the nodes before it
+unfoldable pub inner_in : NodeKind → List (List ℕ) → ℕ → Field → Tree → Data → Data → Result Tree BodyError
+inner_in kind names depth field before d children =
     items_in field (as_array children) >>= λ _.
     under_or same.None (codes "same") field same_in d >>= λ shared.
-    with_only (name ∷ codes "same" ∷ []) field d (with_node depth kind shared before)
+    with_only names field d (with_node depth kind shared before)
 
 -- the node of an object that has a leaf: the faults of its own come before those of the leaf's fields
 unfoldable pub outer_in : ℕ → Field → Tree → Data → Data → Result Tree BodyError
@@ -137,8 +137,8 @@ outer_in depth field before d leaf =
 
 -- the form of an object is the first of these names that it has
 abbrev pub node_of : ℕ → Field → Tree → Data → Option Data → Option Data → Option Data → Result Tree BodyError
-node_of depth field before d (Some children) any leaf = inner_in All (codes "all") depth field before d children
-node_of depth field before d None (Some children) leaf = inner_in Any (codes "any") depth field before d children
+node_of depth field before d (Some children) any leaf = inner_in All (codes "all" ∷ codes "same" ∷ []) depth field before d children
+node_of depth field before d None (Some children) leaf = inner_in Any (codes "any" ∷ codes "same" ∷ []) depth field before d children
 node_of depth field before d None None (Some leaf) = outer_in depth field before d leaf
 node_of depth field before d None None None = fault Missing field
 

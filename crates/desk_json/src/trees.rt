@@ -1,11 +1,10 @@
 //! The tree of a group.
-ghost use Rattle.std.specs.Prelude.{◌≡◌, Ok};
+ghost use Rattle.std.specs.Prelude.{◌≡◌, Ok, codes};
 ghost use Rattle.serde_json.specs.View.{view, items_view};
 ghost use Rattle.serde_json.specs.Find.{get, as_array};
 ghost use Rattle.desk_json.specs.Faults.{IsRead};
-ghost use Rattle.desk_json.specs.Forms.{at, under_or};
+ghost use Rattle.desk_json.specs.Forms.{at, under_or, all_names};
 ghost use Rattle.desk_json.specs.TreeReading.{same_named, same_in, with_node, with_leaf, inner_in, outer_in, node_in, items_or_none, children_of, tree_onto, tree_in};
-ghost use Rattle.std.specs.Prelude.{codes, ◌-◌, ◌≤◌};
 ghost use Rattle.desk_base.specs.declared.rows.groups.Same.TheVariants as same;
 
 use crate::faults::{BodyError, BodyRule};
@@ -83,19 +82,21 @@ fn with_leaf(tree: Tree, leaf: Leaf) -> Result<Tree, BodyError>
     Ok(Tree { nodes, leaves })
 }
 
-/// The names of an object that has this one, and one of what it asks to be the same.
+/// The names of an object that has children, all of which it needs.
 const ALL_NAMES: Names = Names {
     head: &[],
     key: &[],
     others: &["all", "same"],
 };
 
+/// The names of an object that has children, one of which it needs.
 const ANY_NAMES: Names = Names {
     head: &[],
     key: &[],
     others: &["any", "same"],
 };
 
+/// The name of an object that has a leaf.
 const OUTER_NAMES: Names = Names {
     head: &[],
     key: &[],
@@ -103,43 +104,25 @@ const OUTER_NAMES: Names = Names {
 };
 
 #[tactic(auto, unfolding(crate::specs::TreeReading::inner_in))]
-fn read_all(
+fn read_inner(
     tree: Tree,
     depth: u8,
+    kind: NodeKind,
+    names: &Names,
     node: &Value,
     children: &Value,
     field: Field,
 ) -> Result<Tree, BodyError>
-    ensures { IsRead (inner_in NodeKind.All (codes "all") depth field tree (view node.now) (view children.now)) result }
+    ensures { IsRead (inner_in kind (all_names names.now) depth field tree (view node.now) (view children.now)) result }
 {
     if !children.is_array() {
         return Err(BodyError::Bad(BodyRule::Sort, field));
     }
     let same = same_under(node, field)?;
-    if !has_only(node, &ALL_NAMES) {
+    if !has_only(node, names) {
         return Err(BodyError::Bad(BodyRule::Unknown, field));
     }
-    with_node(tree, depth, NodeKind::All, same)
-}
-
-#[tactic(auto, unfolding(crate::specs::TreeReading::inner_in))]
-fn read_any(
-    tree: Tree,
-    depth: u8,
-    node: &Value,
-    children: &Value,
-    field: Field,
-) -> Result<Tree, BodyError>
-    ensures { IsRead (inner_in NodeKind.Any (codes "any") depth field tree (view node.now) (view children.now)) result }
-{
-    if !children.is_array() {
-        return Err(BodyError::Bad(BodyRule::Sort, field));
-    }
-    let same = same_under(node, field)?;
-    if !has_only(node, &ANY_NAMES) {
-        return Err(BodyError::Bad(BodyRule::Unknown, field));
-    }
-    with_node(tree, depth, NodeKind::Any, same)
+    with_node(tree, depth, kind, same)
 }
 
 #[tactic(auto, unfolding(crate::specs::TreeReading::outer_in))]
@@ -179,10 +162,26 @@ fn read_node(
         return Err(BodyError::Bad(BodyRule::Sort, field));
     }
     if let Some(children) = node.get("all") {
-        return read_all(tree, depth, node, children, field);
+        return read_inner(
+            tree,
+            depth,
+            NodeKind::All,
+            &ALL_NAMES,
+            node,
+            children,
+            field,
+        );
     }
     if let Some(children) = node.get("any") {
-        return read_any(tree, depth, node, children, field);
+        return read_inner(
+            tree,
+            depth,
+            NodeKind::Any,
+            &ANY_NAMES,
+            node,
+            children,
+            field,
+        );
     }
     match node.get("leaf") {
         Some(leaf) => read_outer(alloc, tree, depth, node, leaf, field),

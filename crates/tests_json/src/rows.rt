@@ -175,6 +175,8 @@ fn acts_of_groups_are_read(rt: HostRuntime) -> Result<(), Fail> {
     let cases = [
         ("drop_group", r#","group":2"#, "7 1 drop group 2"),
         ("cancel_group", r#","group":2"#, "7 1 cancel group 2"),
+        // of a name that comes twice, the last value counts
+        ("drop_group", r#","group":0,"group":3"#, "7 1 drop group 3"),
         (
             "book_group",
             r#","group":2,"start":"2025-01-06T08:00Z","picks":[1,null,2]"#,
