@@ -1,5 +1,5 @@
 -- Puts that no refusal meets leave well-formed tables, whether or not the bookings fit.
-use Rattle.std.proofs.Common.{◌≡◌, true, false, List, map, None, refl, sym, ◌∙◌, subst}
+use Rattle.std.proofs.Common.{◌≡◌, true, List, map, None, refl, sym, ◌∙◌, subst}
 use Rattle.std.proofs.lemmas.Bool.{false≢true}
 use Rattle.desk_base.specs.declared.rows.tables.Tables.{Tables}
 use Rattle.desk_base.specs.declared.rows.tables.Table.{Table}
