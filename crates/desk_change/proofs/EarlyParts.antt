@@ -1,5 +1,5 @@
 -- The refusals of a change that rows show are those of its call, of what it says, and of what stands.
-use Rattle.std.proofs.Common.{◌≡◌, Option, Some, None, refl, sym, ap, ◌∙◌}
+use Rattle.std.proofs.Common.{◌≡◌, Option, None, sym, ap, ◌∙◌}
 use Rattle.std.specs.Option.{option_or}
 use Rattle.std.specs.Prelude.{List}
 use Rattle.desk_base.specs.declared.rows.tables.Tables.{Tables}
@@ -9,14 +9,7 @@ use Rattle.desk_base.specs.declared.asked.acts.Call.{Call}
 use Rattle.desk_base.specs.declared.asked.acts.Entry.{Entry}
 use Rattle.desk_base.specs.asked.Callers.{last_number}
 use Rattle.desk_base.specs.asked.Refusing.{refused_entry, refused_number, unknown_among, cited_by, refused_field, refused_tree, refused_removal, refused_place, refused_booked, refused_open, early_refusal}
-
-pub or-none : {A : Type 0} (x : Option A) → option_or x None ≡ x
-or-none None = refl
-or-none (Some x) = refl
-
-pub or-or : {A : Type 0} (x y z : Option A) → option_or (option_or x y) z ≡ option_or x (option_or y z)
-or-or None y z = refl
-or-or (Some x) y z = refl
+use Rattle.desk_change.proofs.Options.{or-none, or-or}
 
 -- the refusals of a call, of what is said, and of what stands
 abbrev pub of_call : Tables → List Entry → Call → Option Refusal

@@ -1,6 +1,6 @@
 -- Lemmas of changes: what they meet, and the tables after them.
 pub mod Ready
-pub mod Within
+pub mod Options
 pub mod EarlyParts
 pub mod Picking
 pub mod Naming

@@ -1,10 +1,11 @@
 -- Memberships that name a resource: the first is the lesser of the first of a crew or pool and the first of a member.
 use Rattle.std.proofs.Common.{◌≡◌, ℕ, Bool, true, false, cond, ◌||◌, ◌==◌, List, [], ◌∷◌, map, Option, Some, None, inl, inr, refl, sym, ap, ◌∙◌, subst}
-use Rattle.std.proofs.lemmas.Bool.{false≢true}
+use Rattle.std.proofs.lemmas.Bool.{false≢true, or_cases}
+use Rattle.std.proofs.lemmas.Option.{none-some}
+use Rattle.std.proofs.Math.Bool.{or-true}
 use Rattle.std.specs.Prelude.{filter, find, option_map}
 use Rattle.std.specs.List.Sorted.{IsStrictlySortedBy}
 use Rattle.std.specs.Ordering.{is_lt}
-use Rattle.std.specs.declared.cmp.Ordering.{Ordering}
 use Rattle.std.specs.declared.cmp.Ordering.TheVariants.{Less}
 use Rattle.desk_base.specs.declared.rows.tables.Tables.{Tables}
 use Rattle.desk_base.specs.declared.rows.tables.Key.{Key}
@@ -21,8 +22,9 @@ use Rattle.desk_base.proofs.lists.Members.{all_at, in-filter, in_mapped, in-map}
 use Rattle.desk_base.proofs.lists.Orders.{not_both}
 use Rattle.desk_base.proofs.lists.Tests.{find_cases}
 use Rattle.desk_base.proofs.tables.Sounds.{key_total, keys_rise}
+use Rattle.desk_base.proofs.tables.WithOne.{is_less}
 use Rattle.desk_change.specs.Citing.{citing_in, lesser}
-use Rattle.desk_change.proofs.Naming.{one_holds, numbered}
+use Rattle.desk_change.proofs.Naming.{numbered}
 
 -- ---- lesser keys
 
@@ -33,17 +35,13 @@ lesser_same j = step (is_lt (key_cmp j j))
     step true = refl
     step false = refl
 
-less_is : (r : Ordering) → is_lt r ≡ true → r ≡ Less
-less_is Less e = refl
-less_is _ e = absurd (false≢true e)
-
 -- where the second key, if there is one, is above the first, the first is the lesser
 before_second : (j : Key) (o : Option Key) → ((k : Key) → o ≡ Some k → key_cmp j k ≡ Less) → Some j ≡ lesser (Some j) o
 before_second j None h = refl
 before_second j (Some k) h = step (is_lt (key_cmp k j)) refl
   where
     step : (b : Bool) → is_lt (key_cmp k j) ≡ b → Some j ≡ cond b (Some k) (Some j)
-    step true e = absurd (not_both key_cmp key_total j k (h k refl) (less_is (key_cmp k j) e))
+    step true e = absurd (not_both key_cmp key_total j k (h k refl) (is_less (key_cmp k j) e))
     step false e = refl
 
 before_first : (o : Option Key) (k : Key) → ((j : Key) → o ≡ Some j → key_cmp k j ≡ Less) → Some k ≡ lesser o (Some k)
@@ -63,10 +61,7 @@ module _ {R : Type 0} (any : R → AnyRow) (c : AnyRow → Bool) (p q : R → Bo
       key_is a b g = cc
 
   none_key : (o : Option AnyRow) (k : Key) → o ≡ None → option_map key_of o ≡ Some k → ⊥
-  none_key o k e f = is_none_key k (sym (ap (option_map key_of) e) ∙ f)
-    where
-      is_none_key : (k : Key) → None ≡ Some k → ⊥
-      is_none_key k g = cc
+  none_key o k e f = none-some k (sym (ap (option_map key_of) e) ∙ f)
 
   -- what is found among some of the rows behind one is above it
   above : (x : R) (xs : List R) (r : R → Bool) (k : Key) → IsStrictlySortedBy key_cmp (keys_by any (x ∷ xs)) → found (filter r xs) ≡ Some k → key_cmp (key_of (any x)) k ≡ Less
@@ -112,17 +107,13 @@ module _ {R : Type 0} (any : R → AnyRow) (c : AnyRow → Bool) (p q : R → Bo
 -- ---- memberships
 
 either_number : (k : Key) (g m : ℕ) → (is_key k (id_key ResourceTable g) || (is_key k (id_key ResourceTable m) || false)) ≡ true → ((g == k.a) || (m == k.a)) ≡ true
-either_number k g m e = elim (one_holds (is_key k (id_key ResourceTable g)) (is_key k (id_key ResourceTable m) || false) e) [
+either_number k g m e = elim (or_cases (is_key k (id_key ResourceTable g)) (is_key k (id_key ResourceTable m) || false) e) [
   | inl f ↦ ap (λ u. u || (m == k.a)) (numbered k ResourceTable g f)
-  | inr f ↦ elim (one_holds (is_key k (id_key ResourceTable m)) false f) [
-    | inl h ↦ ap (λ u. (g == k.a) || u) (numbered k ResourceTable m h) ∙ or_true (g == k.a)
+  | inr f ↦ elim (or_cases (is_key k (id_key ResourceTable m)) false f) [
+    | inl h ↦ ap (λ u. (g == k.a) || u) (numbered k ResourceTable m h) ∙ or-true (g == k.a)
     | inr h ↦ absurd (false≢true h)
   ]
 ]
-  where
-    or_true : (b : Bool) → (b || true) ≡ true
-    or_true true = refl
-    or_true false = refl
 
 pub of_members : (t : Tables) (k : Key) → IsSound t
     → lesser (option_map key_of (find (cites k) (map Member (filter (λ (x : MemberRow). x.group == k.a) t.members)))) (option_map key_of (find (cites k) (map Member (filter (λ (x : MemberRow). x.member == k.a) t.members)))) ≡ citing_in t k MemberTable

@@ -1,7 +1,6 @@
 -- The rows of a table that name a key, found among those that belong to its number.
-use Rattle.std.proofs.Common.{◌≡◌, ℕ, Bool, true, false, cond, ◌||◌, ◌==◌, List, [], ◌∷◌, ◌++◌, map, Some, None, ◌⊎◌, inl, inr, refl, sym, ap, ◌∙◌, arith}
-use Rattle.std.proofs.lemmas.Bool.{false≢true}
-use Rattle.std.proofs.lemmas.Bool.Decides.{nat_tests}
+use Rattle.std.proofs.Common.{◌≡◌, ℕ, Bool, true, false, cond, ◌||◌, ◌==◌, List, [], ◌∷◌, ◌++◌, map, Some, None, inl, inr, refl, sym, ap, ◌∙◌}
+use Rattle.std.proofs.lemmas.Bool.{false≢true, eq-eqb, or_cases}
 use Rattle.std.proofs.lemmas.List.Folds.{list_any-append}
 use Rattle.std.specs.Prelude.{filter, find, flat_map, option_map}
 use Rattle.std.specs.List.{list_any}
@@ -63,16 +62,9 @@ narrow any c p h (x ∷ xs) = step (p x) refl (narrow any c p h xs)
 
 -- ---- rows that name a key
 
-pub one_holds : (a b : Bool) → (a || b) ≡ true → (a ≡ true) ⊎ (b ≡ true)
-one_holds true b e = inl refl
-one_holds false b e = inr e
-
-equal : (m n : ℕ) → m ≡ n → (m == n) ≡ true
-equal m n e = grind (arith, nat_tests)
-
 -- the key of a number has the number
 pub numbered : (k : Key) (table : Table) (n : ℕ) → is_key k (id_key table n) ≡ true → (n == k.a) ≡ true
-numbered k table n e = equal n k.a (sym (ap (λ (j : Key). j.a) (is_key-same k (id_key table n) e)))
+numbered k table n e = eq-eqb n k.a (sym (ap (λ (j : Key). j.a) (is_key-same k (id_key table n) e)))
 
 pub in_table : (k : Key) (table : Table) (n : ℕ) → is_key k (id_key table n) ≡ true → k.table ≡ table
 in_table k table n e = ap (λ (j : Key). j.table) (is_key-same k (id_key table n) e)
@@ -82,7 +74,7 @@ other_key : (k : Key) (table : Table) (n : ℕ) → (table_number k.table == tab
 other_key k table n e = step (is_key k (id_key table n)) refl
   where
     step : (b : Bool) → is_key k (id_key table n) ≡ b → is_key k (id_key table n) ≡ false
-    step true f = absurd (false≢true (sym e ∙ equal (table_number k.table) (table_number table) (ap table_number (in_table k table n f))))
+    step true f = absurd (false≢true (sym e ∙ eq-eqb (table_number k.table) (table_number table) (ap table_number (in_table k table n f))))
     step false f = f
 
 pub other_ids : (k : Key) (table : Table) (ids : List ℕ) → (table_number k.table == table_number table) ≡ false → list_any (is_key k) (map (id_key table) ids) ≡ false
@@ -94,15 +86,15 @@ other_ratings k [] e = refl
 other_ratings k (c ∷ ratings) e = ap (λ b. b || list_any (is_key k) (map (λ c. id_key CharacteristicTable c.0) ratings)) (other_key k CharacteristicTable c.0 e) ∙ other_ratings k ratings e
 
 alone : (k : Key) (table : Table) (n : ℕ) → (is_key k (id_key table n) || false) ≡ true → (n == k.a) ≡ true
-alone k table n e = elim (one_holds (is_key k (id_key table n)) false e) [
+alone k table n e = elim (or_cases (is_key k (id_key table n)) false e) [
   | inl f ↦ numbered k table n f
   | inr f ↦ absurd (false≢true f)
 ]
 
 beside : (k : Key) (other : Table) (n m : ℕ) → k.table ≡ ResourceTable → (table_number other == 12) ≡ false → (is_key k (id_key ResourceTable n) || (is_key k (id_key other m) || false)) ≡ true → (n == k.a) ≡ true
-beside k other n m e d h = elim (one_holds (is_key k (id_key ResourceTable n)) (is_key k (id_key other m) || false) h) [
+beside k other n m e d h = elim (or_cases (is_key k (id_key ResourceTable n)) (is_key k (id_key other m) || false) h) [
   | inl f ↦ numbered k ResourceTable n f
-  | inr f ↦ elim (one_holds (is_key k (id_key other m)) false f) [
+  | inr f ↦ elim (or_cases (is_key k (id_key other m)) false f) [
     | inl g ↦ absurd (false≢true (sym d ∙ ap (λ x. table_number x == 12) (sym (in_table k other m g) ∙ e)))
     | inr g ↦ absurd (false≢true g)
   ]
@@ -131,7 +123,7 @@ of_territories t k h = ap (option_map key_of) (narrow HasTerritory (cites k) (λ
 
 -- a booking names no row of these tables but its resource
 of_resource : (k : Key) (g r : ℕ) → is_master k.table ≡ true → (is_key k (id_key GroupTable g) || (is_key k (id_key ResourceTable r) || false)) ≡ true → (r == k.a) ≡ true
-of_resource k g r m h = elim (one_holds (is_key k (id_key GroupTable g)) (is_key k (id_key ResourceTable r) || false) h) [
+of_resource k g r m h = elim (or_cases (is_key k (id_key GroupTable g)) (is_key k (id_key ResourceTable r) || false) h) [
   | inl f ↦ absurd (false≢true (ap is_master (sym (in_table k GroupTable g f)) ∙ m))
   | inr f ↦ alone k ResourceTable r f
 ]

@@ -1,8 +1,9 @@
 -- The resources that are picked: how many there are, and which of them is the first that is not there.
-use Rattle.std.proofs.Common.{◌≡◌, ℕ, ◌+◌, ◌<◌, Bool, true, false, not, cond, List, [], ◌∷◌, ◌++◌, map, length, count_by, take, drop, get_or, Option, Some, None, is_some, refl, sym, ap, ◌∙◌, arith}
+use Rattle.std.proofs.Common.{◌≡◌, ℕ, ◌+◌, ◌<◌, not, cond, List, [], ◌∷◌, ◌++◌, map, length, count_by, take, drop, get_or, Option, Some, None, is_some, refl, sym, ap, ◌∙◌, arith}
 use Rattle.std.proofs.lemmas.List.{take_more, take-append-drop, map-append}
 use Rattle.std.proofs.lemmas.Grind.{flat_map-append}
 use Rattle.std.proofs.lemmas.List.Recursion.{is_count_by}
+use Rattle.std.proofs.lemmas.List.Folds.{find-append}
 use Rattle.std.specs.Prelude.{find, option_map}
 use Rattle.std.specs.Option.{option_or, option_to_list}
 use Rattle.desk_base.specs.declared.rows.tables.Tables.{Tables}
@@ -12,7 +13,7 @@ use Rattle.desk_base.specs.declared.asked.refusals.Refusal.{Refusal}
 use Rattle.desk_base.specs.declared.asked.refusals.Refusal.TheVariants.{UnknownId}
 use Rattle.desk_base.specs.rows.Keys.{id_key}
 use Rattle.desk_base.specs.asked.Refusing.{is_there, picked, unknown_among}
-use Rattle.desk_change.proofs.EarlyParts.{or-none}
+use Rattle.desk_change.proofs.Options.{map-or}
 
 -- ---- how many are picked
 
@@ -25,19 +26,11 @@ length_picked picks = sym (is_count_by (λ ps. length (picked ps)) (λ p. is_som
 
 -- ---- the first that is not there
 
-first_of : (b : Bool) (k : Key) (o : Option Key) → option_map UnknownId (cond b (Some k) o) ≡ option_or (option_map UnknownId (cond b (Some k) None)) (option_map UnknownId o)
-first_of true k o = refl
-first_of false k o = refl
-
 -- the first key that is not there is the first of some, or else the first of those after them
 pub unknown-append : (t : Tables) (ks js : List Key) → unknown_among t (ks ++ js) ≡ option_or (unknown_among t ks) (unknown_among t js)
-unknown-append t [] js = refl
-unknown-append t (k ∷ ks) js = step (not (is_there t k)) (unknown-append t ks js)
-  where
-    step : (b : Bool) → unknown_among t (ks ++ js) ≡ option_or (unknown_among t ks) (unknown_among t js)
-        → option_map UnknownId (cond b (Some k) (find (λ k. not (is_there t k)) (ks ++ js))) ≡ option_or (option_map UnknownId (cond b (Some k) (find (λ k. not (is_there t k)) ks))) (unknown_among t js)
-    step true e = refl
-    step false e = e
+unknown-append t ks js =
+    let missing = λ (k : Key). not (is_there t k) in
+    ap (option_map UnknownId) (find-append missing ks js) ∙ map-or UnknownId (find missing ks) (find missing js)
 
 -- the first picked resource that is not there
 abbrev unknown_picked : Tables → List (Option ℕ) → Option Refusal
@@ -49,15 +42,16 @@ unknown_picked-append t xs ys =
     ∙ ap (unknown_among t) (map-append (id_key Resource) (picked xs) (picked ys))
     ∙ unknown-append t (map (id_key Resource) (picked xs)) (map (id_key Resource) (picked ys))
 
-unknown_picked-cons : (t : Tables) (x : Option ℕ) (xs : List (Option ℕ)) → unknown_picked t (x ∷ xs) ≡ option_or (unknown_among t (map (id_key Resource) (option_to_list x))) (unknown_picked t xs)
-unknown_picked-cons t None xs = refl
-unknown_picked-cons t (Some r) xs = first_of (not (is_there t (id_key Resource r))) (id_key Resource r) (find (λ k. not (is_there t k)) (map (id_key Resource) (picked xs)))
+-- that of one alone
+unknown_pick : (t : Tables) (x : Option ℕ) → unknown_picked t (x ∷ []) ≡ unknown_among t (map (id_key Resource) (option_to_list x))
+unknown_pick t None = refl
+unknown_pick t (Some r) = refl
 
 front_more : (t : Tables) (picks : List (Option ℕ)) (i : ℕ) (x : Option ℕ) → i < length picks → x ≡ get_or picks i x → unknown_picked t (take i picks) ≡ None
     → unknown_picked t (take (i + 1) picks) ≡ unknown_among t (map (id_key Resource) (option_to_list x))
 front_more t picks i x h e n =
     ap (unknown_picked t) (take_more picks i x h ∙ ap (λ y. take i picks ++ y ∷ []) (sym e)) ∙ unknown_picked-append t (take i picks) (x ∷ [])
-    ∙ ap (λ o. option_or o (unknown_picked t (x ∷ []))) n ∙ unknown_picked-cons t x [] ∙ or-none (unknown_among t (map (id_key Resource) (option_to_list x)))
+    ∙ ap (λ o. option_or o (unknown_picked t (x ∷ []))) n ∙ unknown_pick t x
 
 -- where the first i are there and the next one is too, the first i + 1 are
 pub pick_known : (t : Tables) (picks : List (Option ℕ)) (i : ℕ) (x : Option ℕ) → i < length picks → x ≡ get_or picks i x

@@ -1,5 +1,5 @@
 -- Puts that no refusal meets leave well-formed tables, whether or not the bookings fit.
-use Rattle.std.proofs.Common.{◌≡◌, true, false, List, map, None, refl, sym, ◌∙◌, subst}
+use Rattle.std.proofs.Common.{◌≡◌, true, List, map, None, refl, sym, ◌∙◌, subst}
 use Rattle.std.proofs.lemmas.Bool.{false≢true}
 use Rattle.desk_base.specs.declared.rows.tables.Tables.{Tables}
 use Rattle.desk_base.specs.declared.rows.tables.Table.{Table}
@@ -15,17 +15,16 @@ use Rattle.desk_base.specs.rows.Rows.{key_of, keys_in, citations_of}
 use Rattle.desk_base.specs.asked.Refusing.{is_there, has_place, early_refusal}
 use Rattle.desk_base.specs.asked.Acts.{after_act}
 use Rattle.desk_base.specs.changes.Changes.{with_row}
-use Rattle.desk_base.specs.rules.Sound.{IsSound, AreWellFormed, has_tree, keeps_fields}
+use Rattle.desk_base.specs.rules.Sound.{IsSound, AreWellFormed, keeps_fields}
 use Rattle.desk_base.proofs.lists.Members.{IsIn}
 use Rattle.desk_base.proofs.lists.Tests.{list_all_at, list_all_from}
 use Rattle.desk_base.proofs.tables.Sounds.{keys_rise}
 use Rattle.desk_base.proofs.tables.RowPuts.{key_stays, keys_rise_put}
-use Rattle.desk_base.proofs.puts.ActPuts.{is_caller}
-use Rattle.desk_base.proofs.puts.AcceptedPuts.{is_put_row}
+use Rattle.desk_base.proofs.puts.AcceptedPuts.{is_put_row, put_row}
 use Rattle.desk_base.proofs.puts.FieldPuts.{fields_put}
 use Rattle.desk_base.proofs.puts.PutRefusals.{revision_goes_on, suits_put, caller_of_put}
 use Rattle.desk_base.proofs.puts.SoundPuts.{rows_limit}
-use Rattle.desk_base.proofs.puts.Suits.{Suits, is_unbooked, key_there, there_from_key, own_table, put_cites}
+use Rattle.desk_base.proofs.puts.Suits.{Suits, key_there, there_from_key, own_table, put_cites}
 use Rattle.desk_change.specs.Served.{is_master}
 use Rattle.desk_change.proofs.removed.RowRules.{well_formed_by_rows}
 use Rattle.desk_change.proofs.removed.Noted.{row_left, noted, after_put, noted_rows, sound_noted}
@@ -36,12 +35,6 @@ put_of_master (Group x) e = e
 put_of_master (Booking x) e = e
 put_of_master (Caller x) e = e
 put_of_master row e = refl
-
-plain_row : (t : Tables) (row : AnyRow) → is_put_row row ≡ true → (has_tree row ≡ true) × (is_unbooked t row ≡ true) × (is_caller row ≡ false)
-plain_row t (Group x) e = absurd (false≢true e)
-plain_row t (Booking x) e = absurd (false≢true e)
-plain_row t (Caller x) e = absurd (false≢true e)
-plain_row t row e = (refl, refl, refl)
 
 -- ---- what suits the tables suits them with the row of the call and the counters
 
@@ -68,7 +61,7 @@ module _ (t : Tables) (call : Call) (given : Receipt) where
     cited = list_all_from (is_there (noted t call given)) (citations_of row) (λ k i. there_noted k (list_all_at (is_there t) (citations_of row) k fit.cited i));
     fields = fields_noted row ∙ fit.fields;
     place = place_noted row e ∙ fit.place;
-    unbooked = (plain_row (noted t call given) row e).1;
+    unbooked = (put_row (noted t call given) row e).1;
   }
 
 -- ---- the tables with a row that suits them
@@ -88,7 +81,7 @@ module _ (t : Tables) (row : AnyRow) (s : IsSound t) (fit : Suits t row) where
 pub well_formed_put : (t : Tables) (journal : List Entry) (call : Call) (row : AnyRow) → IsSound t → is_master (key_of row).table ≡ true → early_refusal t journal call (act.Put row) ≡ None → AreWellFormed (after_act t call (act.Put row))
 well_formed_put t journal call row s m e =
     let p = put_of_master row m in
-    let r = plain_row t row p in
+    let r = put_row t row p in
     let before = noted t call receipt.Put in
     let sound = sound_noted t call receipt.Put s (caller_of_put t journal call row e) (revision_goes_on t journal call (act.Put row) e) in
     let fit = suits_noted t call receipt.Put row p (suits_put t journal call row e r.0 r.1) in

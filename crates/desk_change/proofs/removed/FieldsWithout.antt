@@ -1,8 +1,8 @@
 -- The rows of sound tables keep their fields, and name what is there, without a row that no row names.
-use Rattle.std.proofs.Common.{◌≡◌, ℕ, true, false, not, cond, ◌&&◌, ◌==◌, [], ◌∷◌, Some, None, inl, inr, refl, sym, ap, ◌∙◌, subst, is_none}
+use Rattle.std.proofs.Common.{◌≡◌, ℕ, true, false, not, ◌&&◌, ◌==◌, Some, inl, inr, refl, sym, ap, ◌∙◌, subst}
 use Rattle.std.proofs.lemmas.Bool.{not-true, eqb-true, eq-eqb}
 use Rattle.std.specs.Option.{option_map_or}
-use Rattle.std.specs.List.{list_any, AllByRecursion}
+use Rattle.std.specs.List.{list_any}
 use Rattle.desk_base.specs.declared.rows.tables.Tables.{Tables}
 use Rattle.desk_base.specs.declared.rows.tables.Table.{Table}
 use Rattle.desk_base.specs.declared.rows.tables.Key.{Key}
@@ -13,8 +13,7 @@ use Rattle.desk_base.specs.declared.rows.resources.ResourceRow.{ResourceRow}
 use Rattle.desk_base.specs.declared.rows.resources.MemberRow.{MemberRow}
 use Rattle.desk_base.specs.declared.rows.tables.Table.TheVariants.{Work as WorkTable, Day as DayTable, Resource as ResourceTable, Member as MemberTable}
 use Rattle.desk_base.specs.declared.rows.tables.AnyRow.TheVariants.{Work, Day, Resource, Member}
-use Rattle.desk_base.specs.rules.Rules.{first_broken}
-use Rattle.desk_base.specs.rules.Fields.{Rules, work_rules, day_rules, resource_rules, member_rules, is_group, is_plain, is_same_membership, keeps_kind, are_of_one_kind, overlaps}
+use Rattle.desk_base.specs.rules.Fields.{work_rules, day_rules, resource_rules, member_rules, is_group, is_plain, is_same_membership, keeps_kind, are_of_one_kind, overlaps}
 use Rattle.desk_base.specs.rows.Keys.{id_key}
 use Rattle.desk_base.specs.rows.Rows.{rows_in, key_of, keys_in, citations_of}
 use Rattle.desk_base.specs.meaning.Capacity.{resource_of}
@@ -23,31 +22,19 @@ use Rattle.desk_base.specs.meaning.Load.{sort_of, sort_of_kind, unknown}
 use Rattle.desk_base.specs.changes.Changes.{without_key}
 use Rattle.desk_base.specs.rules.Sound.{IsSound, keeps_fields}
 use Rattle.desk_base.proofs.lists.Members.{IsIn, in_mapped}
-use Rattle.desk_base.proofs.lists.Tests.{and_left, find_cases}
-use Rattle.desk_base.proofs.meaning.Shapes.{rules_kept, none_from}
+use Rattle.desk_base.proofs.lists.Tests.{find_cases}
 use Rattle.desk_base.proofs.tables.Sounds.{keys_rise}
 use Rattle.desk_base.proofs.tables.AnyRows.{same_work, same_day, same_resource, same_member, in_back}
 use Rattle.desk_base.proofs.tables.TakenRows.{one_row}
 use Rattle.desk_base.proofs.puts.Overlaps.{none_at, none_from_each, works_meet, days_meet, members_meet}
 use Rattle.desk_base.proofs.puts.Suits.{row_keeps, row_cites}
 use Rattle.desk_base.proofs.puts.KindPuts.{resource_found}
+use Rattle.desk_base.proofs.puts.FieldPuts.{keeps_from, kept_in}
 use Rattle.desk_change.proofs.removed.Without.{row_was, key_stays}
 
 -- no row of the tables names the key
 abbrev pub IsUncited : Tables → Key → Type 0
 IsUncited t k = (table : Table) (x : AnyRow) → IsIn x (rows_in t table) → ¬ (IsIn k (citations_of x))
-
--- ---- rules that hold, one by one
-
-unbroken : (rules : Rules) → AllByRecursion (λ x. x.0 ≡ true) rules → first_broken rules ≡ None
-unbroken [] h = refl
-unbroken (x ∷ rules) h = ap (λ b. cond b (first_broken rules) (Some x.1)) h.0 ∙ unbroken rules h.1
-
-keeps_from : (rules : Rules) → AllByRecursion (λ x. x.0 ≡ true) rules → (is_none (first_broken rules) && true) ≡ true
-keeps_from rules h = ap (λ o. is_none o && true) (unbroken rules h)
-
-kept_in : (rules : Rules) → (is_none (first_broken rules) && true) ≡ true → AllByRecursion (λ x. x.0 ≡ true) rules
-kept_in rules e = rules_kept rules (none_from (first_broken rules) (and_left (is_none (first_broken rules)) true e))
 
 -- ---- rows that stay
 

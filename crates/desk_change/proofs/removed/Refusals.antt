@@ -1,5 +1,5 @@
 -- What the refusals of a removal and of a dropping that do not apply give: no row names the row that goes, and the caller has a place.
-use Rattle.std.proofs.Common.{◌≡◌, ℕ, Bool, true, false, cond, ◌==◌, List, [], ◌∷◌, Option, Some, None, ◌⊎◌, inl, inr, refl, sym, ap, ◌∙◌, subst, is_none}
+use Rattle.std.proofs.Common.{◌≡◌, ℕ, true, ◌==◌, List, [], ◌∷◌, Option, Some, None, ◌⊎◌, inl, inr, refl, ap, subst, is_none}
 use Rattle.std.proofs.lemmas.Bool.{false≢true, eqb-true}
 use Rattle.std.specs.Prelude.{find, flat_map}
 use Rattle.std.specs.List.{list_any}
@@ -21,6 +21,7 @@ use Rattle.desk_base.proofs.lists.Members.{IsIn, in_flat}
 use Rattle.desk_base.proofs.lists.Tests.{list_any_at, list_any_from}
 use Rattle.desk_base.proofs.meaning.Shapes.{rules_kept}
 use Rattle.desk_base.proofs.tables.KeyOrder.{same_table, is_key-itself}
+use Rattle.desk_base.proofs.puts.KindPuts.{none_found}
 use Rattle.desk_base.proofs.puts.PutRefusals.{map_none, test_fails, early_none}
 use Rattle.desk_change.proofs.removed.FieldsWithout.{IsUncited}
 use Rattle.desk_change.proofs.removed.GroupNames.{uncited_group}
@@ -35,15 +36,6 @@ none_of {A} (p ∷ os) o e i = step p e i (none_of os o)
     step None e (inl f) more = f
     step None e (inr i) more = more e i
     step (Some x) e i more = absurd (false≢true (ap is_none e))
-
-none_found : {A : Type 0} (p : A → Bool) (xs : List A) (x : A) → find p xs ≡ None → IsIn x xs → p x ≡ true → ⊥
-none_found p [] x e i h = i
-none_found {A} p (y ∷ ys) x e i h = step (p y) refl e i (λ f j. none_found p ys x f j h)
-  where
-    step : (b : Bool) → p y ≡ b → cond b (Some y) (find p ys) ≡ None → IsIn x (y ∷ ys) → (find p ys ≡ None → IsIn x ys → ⊥) → ⊥
-    step true k f j more = false≢true (ap is_none f)
-    step false k f (inl q) more = false≢true (sym k ∙ sym (ap p q) ∙ h)
-    step false k f (inr j) more = more f j
 
 -- every table that has rows is looked through
 is_listed : (table : Table) → (list_any (λ d. table_number d == table_number table) all_tables ≡ true) ⊎ (table ≡ BookingNumbers)

@@ -1,8 +1,7 @@
 -- Tables without a row: what says nothing of room leaves what fits, and where bookings clash, as it is.
-use Rattle.std.proofs.Common.{◌≡◌, ℕ, ◌+◌, ◌<◌, ◌≤◌, false, List, [], ◌∷◌, ◌++◌, map, nat_lt, Some, refl, sym, ap, ◌∙◌, subst, arith}
+use Rattle.std.proofs.Common.{◌≡◌, ℕ, ◌+◌, ◌<◌, ◌≤◌, false, List, [], ◌++◌, map, nat_lt, refl, sym, ap, ◌∙◌, subst}
 use Rattle.std.proofs.lemmas.Bool.{false≢true}
-use Rattle.std.proofs.lemmas.List.Sums.{sum_by-cons}
-use Rattle.std.specs.Prelude.{sum_by, IfSome, find, option_map}
+use Rattle.std.specs.Prelude.{IfSome, find, option_map}
 use Rattle.std.specs.Option.{option_map_or}
 use Rattle.desk_base.specs.declared.rows.tables.Tables.{Tables}
 use Rattle.desk_base.specs.declared.rows.tables.Table.{Table}
@@ -16,43 +15,26 @@ use Rattle.desk_base.specs.declared.asked.acts.Call.{Call}
 use Rattle.desk_base.specs.declared.asked.refusals.Clash.{Clash}
 use Rattle.desk_base.specs.declared.asked.refusals.Shown.TheVariants as shown
 use Rattle.desk_base.specs.meaning.Capacity.{capacity, calendar_capacity}
-use Rattle.desk_base.specs.meaning.Load.{LoadSort, plain, crew, pool, unknown, sort_of, members, load, weight, room_of_crew, room_by, room, IsWithinRoom, Fits, ask_of, shown_at, IsClash}
+use Rattle.desk_base.specs.meaning.Load.{weight, room, IsWithinRoom, Fits, ask_of, shown_at, IsClash}
 use Rattle.desk_base.specs.changes.Changes.{without_row, without_key, with_change}
 use Rattle.desk_base.specs.asked.Acts.{after_act}
 use Rattle.desk_base.specs.asked.Steps.{bears_on_room, IsConflict}
-use Rattle.desk_base.proofs.lists.Tests.{sum_by_same}
-use Rattle.desk_base.proofs.puts.RoomPuts.{HaveSameRoom, same_weight, Fits-same, quiet_caller}
+use Rattle.desk_base.proofs.puts.RoomPuts.{HaveSameRoom, same_room, same_load, same_weight, Fits-same, quiet_caller}
 use Rattle.desk_change.proofs.removed.Noted.{row_left}
 
 -- ---- tables of the same resources, members and capacities have the same conflicts
 
 module _ (t u : Tables) (h : HaveSameRoom t u) where
-  same_room_by : (k : LoadSort) (r m : ℕ) → room_by k u r m ≡ room_by k t r m
-  same_room_by plain r m = ap Some (h.capacities r m)
-  same_room_by crew r m = ap room_of_crew (h.members r m)
-  same_room_by pool r m = ap Some (sum_by_same (λ x. capacity u x m) (λ x. capacity t x m) (members u r m) (λ x. h.capacities x m) ∙ ap (sum_by (λ x. capacity t x m)) (h.members r m))
-  same_room_by unknown r m = refl
-
-  same_room : (r m : ℕ) → room u r m ≡ room t r m
-  unfolding room
-  same_room r m = same_room_by (sort_of u r) r m ∙ ap (λ k. room_by k t r m) (h.sorts r)
-
-  same_load : (r m : ℕ) (a : Ask) → load u r m a ≡ load t r m a
-  same_load r m a =
-      let w = same_weight t u h (a ∷ []) r m in
-      let e = sum_by-cons (load u r m) a [] in
-      let f = sum_by-cons (load t r m) a [] in omega arith
-
   same_within : (asks : List Ask) (r m : ℕ) → IsWithinRoom t asks r m → IsWithinRoom u asks r m
-  same_within asks r m f = subst (λ o. IfSome o (λ n. weight u asks r m ≤ n)) (sym (same_room r m)) (subst (λ w. IfSome (room t r m) (λ n. w ≤ n)) (sym (same_weight t u h asks r m)) f)
+  same_within asks r m f = subst (λ o. IfSome o (λ n. weight u asks r m ≤ n)) (sym (same_room t u h r m)) (subst (λ w. IfSome (room t r m) (λ n. w ≤ n)) (sym (same_weight t u h asks r m)) f)
 
   same_shown : (standing : List BookingRow) (r m : ℕ) → shown_at u standing r m ≡ shown_at t standing r m
-  same_shown standing r m = λ i. option_map (λ (b : BookingRow). b.id) (find (λ (b : BookingRow). nat_lt 0 (same_load r m (ask_of b) i)) standing)
+  same_shown standing r m = λ i. option_map (λ (b : BookingRow). b.id) (find (λ (b : BookingRow). nat_lt 0 (same_load t u h r m (ask_of b) i)) standing)
 
   same_clash : (standing : List BookingRow) (asked : List Ask) (r m n : ℕ) → IsClash t standing asked r m n → IsClash u standing asked r m n
   same_clash standing asked r m n c = record {
     minute = c.minute;
-    capacity = same_room r m ∙ c.capacity;
+    capacity = same_room t u h r m ∙ c.capacity;
     over = subst (λ w. n < w + weight u asked r m) (sym (same_weight t u h (map ask_of standing) r m)) (subst (λ w. n < weight t (map ask_of standing) r m + w) (sym (same_weight t u h asked r m)) c.over);
     earlier = λ r' m' i l. same_within (map ask_of standing ++ asked) r' m' (c.earlier r' m' i l);
     lower = λ r' l. same_within (map ask_of standing ++ asked) r' m (c.lower r' l);

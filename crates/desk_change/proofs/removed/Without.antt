@@ -1,73 +1,45 @@
 -- Tables without the row of a key: the other tables are as before, and its own has all rows but that one.
-use Rattle.std.proofs.Common.{◌≡◌, ◌≢◌, suc, ◌+◌, ◌≤◌, Bool, true, false, cond, List, [], ◌∷◌, ◌++◌, map, filter, length, ◌⊎◌, inl, inr, refl, sym, ap, ◌∙◌, subst, arith, length-append}
-use Rattle.std.proofs.lemmas.List.{map-append}
-use Rattle.std.specs.declared.cmp.Ordering.{Ordering}
-use Rattle.std.specs.declared.cmp.Ordering.TheVariants.{Less, Equal, Greater}
-use Rattle.std.specs.Ordering.{ordering_reverse, is_lt}
+use Rattle.std.proofs.Common.{◌≡◌, ◌≢◌, ◌≤◌, List, ◌∷◌, ◌++◌, map, length, ◌⊎◌, inl, inr, refl, sym, ap, ◌∙◌, subst, arith, length-append}
+use Rattle.std.proofs.lemmas.List.{map-append, length-map}
 use Rattle.desk_base.specs.declared.rows.tables.Tables.{Tables}
 use Rattle.desk_base.specs.declared.rows.tables.Table.{Table}
 use Rattle.desk_base.specs.declared.rows.tables.Key.{Key}
 use Rattle.desk_base.specs.declared.rows.tables.AnyRow.{AnyRow}
 use Rattle.desk_base.specs.declared.rows.tables.Table.TheVariants.{Zone as ZoneTable, Calendar as CalendarTable, Work as WorkTable, Break as BreakTable, Day as DayTable, Off as OffTable, Unit as UnitTable, Site as SiteTable, Role as RoleTable, Characteristic as CharacteristicTable, Territory as TerritoryTable, Resource as ResourceTable, HasRole as HasRoleTable, HasCharacteristic as HasCharacteristicTable, HasTerritory as HasTerritoryTable, Member as MemberTable, Group as GroupTable, Booking as BookingTable, Caller as CallerTable, BookingNumbers}
 use Rattle.desk_base.specs.declared.rows.tables.AnyRow.TheVariants.{Zone, Calendar, Work, Break, Day, Off, Unit, Site, Role, Characteristic, Territory, Resource, HasRole, HasCharacteristic, HasTerritory, Member, Group, Booking, Caller}
-use Rattle.desk_base.specs.rows.Keys.{key_cmp}
 use Rattle.desk_base.specs.rows.Rows.{rows_in, key_of, keys_in}
-use Rattle.desk_base.specs.changes.Changes.{is_below, rows_below, rows_above, without_one, without_row, without_key}
-use Rattle.desk_base.proofs.lists.Members.{IsIn, in-append, in_left, in_right, in-map, in_mapped, in-filter, in_filtered}
-use Rattle.desk_base.proofs.tables.Sounds.{key_total}
-use Rattle.desk_base.proofs.tables.WithOne.{key_cases}
+use Rattle.desk_base.specs.changes.Changes.{is_below, rows_below, rows_above, with_one, without_one, without_row, without_key}
+use Rattle.desk_base.proofs.lists.Members.{IsIn, in-map, in_mapped}
+use Rattle.desk_base.proofs.tables.WithOne.{length_more, map-filter}
+use Rattle.desk_base.proofs.tables.TakenRows.{in-without_one, in_without}
 
--- ---- one list of rows
+-- ---- one list of keys
 
-module _ {R : Type 0} (key : R → Key) where
-  -- each row was there
-  in-without : (k : Key) (y : R) (rows : List R) → IsIn y (without_one key k rows) → IsIn y rows
-  unfolding without_one
-  in-without k y rows i = elim (in-append y (rows_below key k rows) (rows_above key k rows) i) [
-    | inl j ↦ (in-filter (λ z. is_below (key z) k) y rows j).0
-    | inr j ↦ (in-filter (λ z. is_below k (key z)) y rows j).0
-  ]
-
-  -- a row of another key is there
-  in_without : (k : Key) (y : R) (rows : List R) → IsIn y rows → key y ≢ k → IsIn y (without_one key k rows)
-  unfolding without_one
-  in_without k y rows i n = elim (key_cases (key y) k) [
-    | inl e ↦ in_left y (rows_below key k rows) (rows_above key k rows) (in_filtered (λ z. is_below (key z) k) y rows i e)
-    | inr (inl e) ↦ in_right y (rows_below key k rows) (rows_above key k rows) (in_filtered (λ z. is_below k (key z)) y rows i e)
-    | inr (inr e) ↦ absurd (n e)
-  ]
-
-  fewer_step : (r q : Ordering) (y : R) (a b ys : List R) → q ≡ ordering_reverse r → length a + length b ≤ length ys → length (cond (is_lt r) (y ∷ a) a) + length (cond (is_lt q) (y ∷ b) b) ≤ suc (length ys)
-  fewer_step Less q y a b ys e h = let f = ap is_lt e in rw f (omega (arith, h))
-  fewer_step Equal q y a b ys e h = let f = ap is_lt e in rw f (omega (arith, h))
-  fewer_step Greater q y a b ys e h = let f = ap is_lt e in rw f (omega (arith, h))
-
-  fewer_parts : (k : Key) (rows : List R) → length (rows_below key k rows) + length (rows_above key k rows) ≤ length rows
-  fewer_parts k [] = omega arith
-  fewer_parts k (y ∷ rows) = fewer_step (key_cmp (key y) k) (key_cmp k (key y)) y (rows_below key k rows) (rows_above key k rows) rows (key_total.antisymm k (key y)) (fewer_parts k rows)
-
-  -- there are no more
-  length-without : (k : Key) (rows : List R) → length (without_one key k rows) ≤ length rows
-  unfolding without_one
-  length-without k rows = let a = length-append (rows_below key k rows) (rows_above key k rows) in let f = fewer_parts k rows in omega arith
+-- without one they are no more
+fewer_keys : (k : Key) (keys : List Key) → length (without_one (λ j. j) k keys) ≤ length keys
+unfolding with_one without_one
+fewer_keys k keys =
+    let rest = length-append (rows_below (λ j. j) k keys) (rows_above (λ j. j) k keys) in
+    let more = length-append (rows_below (λ j. j) k keys) (k ∷ rows_above (λ j. j) k keys) in
+    let one = length_more (λ (j : Key). j) k keys in omega arith
 
 -- ---- rows of one table among those of any
 
 module _ {R A : Type 0} (key : A → Key) (con : R → A) where
-  map-filter : (p : A → Bool) (rows : List R) → map con (filter (λ y. p (con y)) rows) ≡ filter p (map con rows)
-  map-filter p [] = refl
-  map-filter p (y ∷ rows) = step (p (con y)) (map-filter p rows)
-    where
-      step : (b : Bool) → map con (filter (λ y. p (con y)) rows) ≡ filter p (map con rows) → map con (cond b (y ∷ filter (λ y. p (con y)) rows) (filter (λ y. p (con y)) rows)) ≡ cond b (con y ∷ filter p (map con rows)) (filter p (map con rows))
-      step true e = ap (λ l. con y ∷ l) e
-      step false e = e
-
   map-without_one : (k : Key) (rows : List R) → map con (without_one (λ y. key (con y)) k rows) ≡ without_one key k (map con rows)
   unfolding without_one
   map-without_one k rows =
-      let below = map-filter (λ a. is_below (key a) k) rows in
-      let above = map-filter (λ a. is_below k (key a)) rows in
+      let below = map-filter key con (λ a. is_below (key a) k) rows in
+      let above = map-filter key con (λ a. is_below k (key a)) rows in
       map-append con (rows_below (λ y. key (con y)) k rows) (rows_above (λ y. key (con y)) k rows) ∙ (λ i. below i ++ above i)
+
+-- rows without one are no more
+fewer_rows : (k : Key) (rows : List AnyRow) → length (without_one key_of k rows) ≤ length rows
+fewer_rows k rows =
+    let same = length-map (without_one key_of k rows) key_of in
+    let keys = ap length (map-without_one (λ (j : Key). j) key_of k rows) in
+    let all = length-map rows key_of in
+    let fewer = fewer_keys k (map key_of rows) in omega arith
 
 -- ---- all tables
 
@@ -148,14 +120,14 @@ module _ (t : Tables) (k : Key) where
   -- each row was there
   pub row_was : (table : Table) (x : AnyRow) → IsIn x (rows_in (without_key t k) table) → IsIn x (rows_in t table)
   row_was table x i = elim (rows_cases table) [
-    | inl e ↦ in-without key_of k x (rows_in t table) (subst (IsIn x) e.1 i)
+    | inl e ↦ (in-without_one (λ y. y) k x (rows_in t table) (subst (IsIn x) e.1 i)).0
     | inr e ↦ subst (IsIn x) e i
   ]
 
   -- a row of another key stays
   pub row_stays : (table : Table) (x : AnyRow) → IsIn x (rows_in t table) → key_of x ≢ k → IsIn x (rows_in (without_key t k) table)
   row_stays table x i n = elim (rows_cases table) [
-    | inl e ↦ subst (IsIn x) (sym e.1) (in_without key_of k x (rows_in t table) i n)
+    | inl e ↦ subst (IsIn x) (sym e.1) (in_without (λ y. y) k x (rows_in t table) i n)
     | inr e ↦ subst (IsIn x) (sym e) i
   ]
 
@@ -168,6 +140,6 @@ module _ (t : Tables) (k : Key) where
   -- no table has more rows
   pub rows_fewer : (table : Table) → length (rows_in (without_key t k) table) ≤ length (rows_in t table)
   rows_fewer table = elim (rows_cases table) [
-    | inl e ↦ subst (λ l. length l ≤ length (rows_in t table)) (sym e.1) (length-without key_of k (rows_in t table))
+    | inl e ↦ subst (λ l. length l ≤ length (rows_in t table)) (sym e.1) (fewer_rows k (rows_in t table))
     | inr e ↦ subst (λ l. length l ≤ length (rows_in t table)) (sym e) (omega arith)
   ]

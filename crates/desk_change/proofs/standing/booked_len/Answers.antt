@@ -1,7 +1,7 @@
 use Rattle.std.proofs.Common.{◌==◌, length, arith, ap}
+use Rattle.std.proofs.lemmas.List.Sums.{length-filter, count_by-le-length}
 use Rattle.desk_base.specs.declared.rows.bookings.BookingRow.{BookingRow}
 use Rattle.desk_base.proofs.tables.Sounds.{well_formed}
-use Rattle.desk_change.proofs.Within.{few_pass}
 use Rattle.desk_change.proofs.standing.booked_len.Goals as goal
 
 pub returns-clause-count : goal.returns-clause-count
@@ -12,5 +12,5 @@ returns-clause-count c =
 pub returns-clause-within : goal.returns-clause-within
 returns-clause-within c =
     let t = c.args.tables.now in
-    let few = few_pass (λ (b : BookingRow). b.group == c.args.group) t.bookings in
-    omega (arith, few, ap length (c.bookings_of.ensures t (well_formed t c.requires.sound) c.requires.index))
+    let own = λ (b : BookingRow). b.group == c.args.group in
+    omega (arith, length-filter own t.bookings, count_by-le-length own t.bookings, ap length (c.bookings_of.ensures t (well_formed t c.requires.sound) c.requires.index))
