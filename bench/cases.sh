@@ -7,7 +7,7 @@ program=crates/desk_bench/out/desk_bench
 . "$(dirname "$0")/timing.sh"
 . "$(dirname "$0")/rounds.sh"
 for resources in 200 2000 4000; do
-  idle=$(milliseconds "$program" idle "$resources" 0)
+  idle=$(least "$program" idle "$resources" 0)
   each case "$resources" 2000
   each case12 "$resources" 200
   each refusal "$resources" 500000

@@ -8,7 +8,7 @@ program=crates/desk_bench/out/desk_bench
 . "$(dirname "$0")/timing.sh"
 . "$(dirname "$0")/rounds.sh"
 for resources in 200 2000 4000; do
-  idle=$(milliseconds "$program" idle "$resources" 0)
+  idle=$(least "$program" idle "$resources" 0)
   each index "$resources" $((20000 / resources))
   each book "$resources" 200000
   each view "$resources" 20000000

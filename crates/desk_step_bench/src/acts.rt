@@ -134,7 +134,7 @@ pub(crate) fn off(resource: u32, from: u32) -> Result<Act, Stop>
     let row = OffRow {
         resource: resource_id(resource)?,
         from: minute(from)?,
-        to: minute(from + HOUR)?,
+        to: minute(from.saturating_add(HOUR))?,
     };
     Ok(Act::Put(AnyRow::Off(row)))
 }
@@ -202,7 +202,7 @@ pub(crate) fn group(alloc: Global, number: u32, from: u32, offsets: &[u32]) -> R
         id: group_id(number)?,
         name: Name::of(alloc, "Visit")?,
         from: minute(from)?,
-        to: minute(from + 7 * DAY)?,
+        to: minute(from.saturating_add(7 * DAY))?,
         step: 60,
         nodes: nodes(alloc, offsets.len())?,
         leaves: leaves(alloc, offsets)?,
@@ -224,7 +224,7 @@ pub(crate) fn same_picks(alloc: Global, resource: u32, leaves: usize) -> Result<
 pub(crate) fn odd_picks(alloc: Global, leaves: u32) -> Result<Picks, Stop> {
     let mut picks = Items::new(alloc);
     for place in 0..leaves {
-        picks.push(Some(resource_id(2 * place + 1)?))?;
+        picks.push(Some(resource_id(place.saturating_mul(2).saturating_add(1))?))?;
     }
     Ok(picks)
 }

@@ -43,7 +43,7 @@ fn opened(alloc: Global) -> Result<Book, NoMemory> {
 
 /// The calendar of a resource.
 fn calendar_of(resource: u32) -> u32 {
-    (resource - 1) / FIFTY + 1
+    resource.saturating_sub(1) / FIFTY + 1
 }
 
 fn add_calendar(alloc: Global, book: &mut Book, number: u32) -> Result<(), Stop> {
@@ -56,7 +56,8 @@ fn add_calendar(alloc: Global, book: &mut Book, number: u32) -> Result<(), Stop>
 
 /// The group of a week of a resource.
 fn group_of(resource: u32, week: u32) -> u32 {
-    (resource - 1) * WEEKS + week + 1
+    let before = resource.saturating_sub(1).saturating_mul(WEEKS);
+    before.saturating_add(week).saturating_add(1)
 }
 
 fn booking(alloc: Global, resource: u32, week: u32, start: u32) -> Result<Act, Stop>
@@ -73,8 +74,12 @@ fn booking(alloc: Global, resource: u32, week: u32, start: u32) -> Result<Act, S
 }
 
 fn add_week(alloc: Global, book: &mut Book, resource: u32, week: u32) -> Result<(), Stop> {
-    let from = MONDAY + week * 7 * DAY;
-    let start = if resource % 2 == 1 { from } else { from + HOUR };
+    let from = MONDAY.saturating_add(week.saturating_mul(7 * DAY));
+    let start = if resource % 2 == 1 {
+        from
+    } else {
+        from.saturating_add(HOUR)
+    };
     make(
         alloc,
         book,

@@ -30,7 +30,7 @@ const TOGETHER: [u32; 12] = [0; 12];
 
 /// The hour of this number of the first Monday, from 0 at 08:00.
 fn hour(number: u32) -> u32 {
-    MONDAY + number * HOUR
+    MONDAY.saturating_add(number.saturating_mul(HOUR))
 }
 
 /// Books group 1 at an hour, or moves it there.
@@ -101,13 +101,15 @@ fn first_page() -> Result<Query, Stop> {
 fn role_round(alloc: Global, book: &mut Book) -> Result<u32, Stop> {
     let put = change(alloc, book, has_role()?)?;
     let removal = removal(Table::HasRole, 1, 1, 0).ok_or(Stop::OutOfRange)?;
-    Ok(put + change(alloc, book, removal)?)
+    let removed = change(alloc, book, removal)?;
+    Ok(put.saturating_add(removed))
 }
 
 fn group_round(alloc: Global, book: &mut Book) -> Result<u32, Stop> {
     let put = change(alloc, book, group(alloc, OTHER, MONDAY, &[0])?)?;
     let other = group_id(OTHER)?;
-    Ok(put + change(alloc, book, Act::DropGroup(other))?)
+    let dropped = change(alloc, book, Act::DropGroup(other))?;
+    Ok(put.saturating_add(dropped))
 }
 
 fn work_round(alloc: Global, book: &mut Book) -> Result<u32, Stop> {
