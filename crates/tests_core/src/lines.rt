@@ -100,6 +100,18 @@ fn answer_to(alloc: Global, book: &mut Book, asked: Asked<'_>) -> Result<Bytes, 
     }
 }
 
+/// Asks what the line says, and compares the answer.
+pub(crate) fn go_through_line(
+    rt: &impl Abort,
+    alloc: Global,
+    book: &mut Book,
+    line: Line<'_>,
+) -> Result<(), Fail> {
+    let text = answer_to(alloc, book, line.0)?;
+    assert_eq!(rt; str::from_utf8(text.as_slice()).unwrap_or(""), line.1);
+    Ok(())
+}
+
 fn go_through(
     rt: &impl Abort,
     alloc: Global,
@@ -107,8 +119,7 @@ fn go_through(
     lines: &[Line<'_>],
 ) -> Result<(), Fail> {
     for line in lines {
-        let text = answer_to(alloc, book, line.0)?;
-        assert_eq!(rt; str::from_utf8(text.as_slice()).unwrap_or(""), line.1);
+        go_through_line(rt, alloc, book, *line)?;
     }
     Ok(())
 }
