@@ -12,7 +12,7 @@ milliseconds() {
 least() {
   local round now best=''
   for round in 1 2 3; do
-    now=$(milliseconds "$@")
+    now=$(milliseconds "$@") || return 1
     [ -n "$best" ] && [ "$best" -le "$now" ] || best=$now
   done
   echo "$best"
