@@ -193,10 +193,11 @@ fn read_command(alloc: Global, request: &Request) -> Result<Option<Command>, NoM
 
 /// The command that a request asks for.
 ///
-/// Served are `GET /revision`; `GET /journal`, alone or with `?from=N`, N from 0 to 10^15 in decimal; `GET /groups/ID/rows`, with ID from 1 to 999,999,999 in decimal, and with a query of
-/// `limit=N`, N below 2^32 in decimal, `after=CURSOR`, `at=latest`, `from=MOMENT` and `to=MOMENT`, each at most once and in
-/// any order; and `POST /changes`, where the body asks for a change. The query is read literally: what is percent-encoded,
-/// named otherwise, empty or given twice is not built. The body of a GET is not looked at.
+/// Served are `GET /revision`; `GET /journal`, alone or with the query `from=N`, N from 0 to 10^15 in decimal;
+/// `GET /groups/ID/rows`, with ID from 1 to 999,999,999 in decimal, and with a query of `limit=N`, N below 2^32 in decimal,
+/// `after=CURSOR`, `at=latest`, `from=MOMENT` and `to=MOMENT`, each at most once and in any order; and `POST /changes`, where
+/// the body asks for a change. The query is read literally: what is percent-encoded, named otherwise, empty or given twice is
+/// not built. The body of a GET is not looked at.
 pub fn read_request(alloc: Global, request: &Request) -> Result<Routed, NoMemory>
     ensures { IfOk result (Reads request.now) }
 {
