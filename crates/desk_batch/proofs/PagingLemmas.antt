@@ -1,5 +1,5 @@
 -- A query's text is the texts of its parts between `&`, and each part is read from its own.
-use Rattle.std.proofs.Common.{◌≡◌, ◌≢◌, ℕ, ◌+◌, ◌<◌, ◌≤◌, ◌^◌, ◌⊎◌, Bool, true, false, true≢false, ◌==◌, cond, List, [], ◌∷◌, ◌++◌, codes, map, length, take, get_or, decimal, All, Option, Some, None, Result, Ok, Err, IfOk, SomeIff, MatchOption, Bor, refl, sym, ap, subst, ◌∙◌, inl, inr, arith}
+use Rattle.std.proofs.Common.{◌≡◌, ◌≢◌, ℕ, ◌+◌, ◌<◌, ◌≤◌, ◌^◌, ◌⊎◌, Bool, true, false, true≢false, ◌==◌, cond, List, [], ◌∷◌, ◌++◌, codes, map, length, take, get_or, decimal, All, Option, Some, None, Result, Ok, Err, IfOk, SomeIff, MatchOption, Bor, refl, sym, ap, subst, ◌∙◌, inl, arith}
 use Rattle.std.specs.List.{slice_split, join_with_byte, count_by, AllByRecursion}
 use Rattle.std.proofs.lemmas.Bool.{ne_eqb}
 use Rattle.std.proofs.lemmas.Fmt.{decimal_injective}
@@ -19,7 +19,7 @@ use Rattle.desk_batch.specs.declared.paging.Parameter.{Parameter}
 use Rattle.desk_batch.specs.declared.paging.Parameter.TheVariants as parameter
 use Rattle.desk_batch.specs.declared.paging.Part.{Part}
 use Rattle.desk_batch.specs.declared.paging.Part.TheVariants.{Limit, After, Latest, From, To, Per}
-use Rattle.desk_batch.specs.Paging.{part_text, IsPart, gives, is_once, asked_by, query_text, AreParts}
+use Rattle.desk_batch.specs.Paging.{part_text, IsPart, gives, is_once, asked_by, query_text}
 use Rattle.desk_batch.specs.RequestReading.{Finds, IsNumber, IsMomentOf, IsNumberBehind, IsMomentBehind, IsAfterPart, IsPartOf, IsShortPartOf, ArePartsOf, IsAskedIn, IsAskedBehind}
 use Rattle.desk_batch.proofs.PieceLemmas.{Lacks, decimal_lacks, pieces_of_joined, text_of_pieces, some_pieces}
 

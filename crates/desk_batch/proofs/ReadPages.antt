@@ -1,8 +1,8 @@
 -- Pages that are shown are in the ranges of pages that are answered, so that the text of each is that of no other.
-use Rattle.std.proofs.Common.{◌≡◌, ℕ, ◌≤◌, ◌<◌, min, unwrap_or, List, [], ◌∷◌, ◌++◌, length, length-append, Option, Some, None, inl, inr, refl, sym, ap, ◌∙◌, subst, arith, is_some}
+use Rattle.std.proofs.Common.{◌≡◌, ℕ, ◌≤◌, unwrap_or, List, [], ◌∷◌, ◌++◌, length, length-append, Option, Some, None, inl, refl, sym, ap, subst, arith, is_some}
 use Rattle.std.proofs.lemmas.List.{length-map}
 use Rattle.std.proofs.lemmas.List.Elements.{All-cons}
-use Rattle.std.specs.Prelude.{All, Contains, MatchOption}
+use Rattle.std.specs.Prelude.{All, MatchOption}
 use Rattle.std.specs.List.{last_or}
 use Rattle.desk_base.specs.declared.rows.tables.Tables.{Tables}
 use Rattle.desk_base.specs.declared.rows.groups.GroupRow.{GroupRow}
@@ -14,7 +14,7 @@ use Rattle.desk_base.specs.meaning.Picks.{pattern_of}
 use Rattle.desk_base.specs.meaning.Trees.{tree_of, patterns}
 use Rattle.desk_base.specs.rules.Limits.{leaf_limit, page_limit, passed_limit, revision_limit}
 use Rattle.desk_base.specs.search.Listing.{IsSoundGroup, IsLive}
-use Rattle.desk_base.specs.search.Page.{ResumePoint, beginning, next_point, due_of, passed_of, page_of, shown_after, IsPage, AreResumed}
+use Rattle.desk_base.specs.search.Page.{ResumePoint, beginning, next_point, due_of, passed_of, shown_after, IsPage, AreResumed}
 use Rattle.desk_base.specs.search.Positions.{found_of, rows_among}
 use Rattle.desk_base.proofs.lists.Members.{IsIn, in_left, in_right, in_from_contains, contains_from_in}
 use Rattle.desk_base.proofs.meaning.Patterns.{length-pattern}

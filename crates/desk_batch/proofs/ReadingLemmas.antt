@@ -8,6 +8,7 @@ use Rattle.desk_base.specs.declared.search.results.Cursor.{Cursor}
 use Rattle.desk_base.specs.declared.asked.answers.Command.{Command as Asked}
 use Rattle.desk_base.specs.declared.asked.answers.Command.TheVariants.{Ask}
 use Rattle.desk_base.specs.declared.asked.answers.Query.{Query}
+use Rattle.desk_base.specs.declared.asked.answers.Query.TheVariants.{Journal}
 use Rattle.desk_time.specs.Limits.{IsMoment}
 use Rattle.desk_time.specs.Moments.{IsMomentText, moment_text}
 use Rattle.desk_time.proofs.MomentTexts.{moment_text-is, moment_text-one_moment}
@@ -22,8 +23,8 @@ use Rattle.desk_batch.specs.declared.requests.Routed.{Routed}
 use Rattle.desk_batch.specs.declared.requests.Routed.TheVariants.{Command, Refused}
 use Rattle.desk_batch.specs.declared.requests.WebRefusal.TheVariants.{NotBuilt}
 use Rattle.desk_batch.specs.Paging.{part_text, IsPart, asked_by, query_text}
-use Rattle.desk_batch.specs.RequestReading.{IsCut}
-use Rattle.desk_batch.specs.Requesting.{rows_target, rows_of, AsksRows, IsQuestion, IsGot, IsPosted, IsAsked, Reads}
+use Rattle.desk_batch.specs.RequestReading.{IsShortQuestion}
+use Rattle.desk_batch.specs.Requesting.{rows_target, rows_of, AsksRows, AsksRevision, AsksJournal, IsJournalFrom, IsQuestion, IsAsked, Reads}
 use Rattle.desk_batch.proofs.PieceLemmas.{pieces_of_joined}
 use Rattle.desk_batch.proofs.PagingLemmas.{CursorsArePlain, is_and, each_lacks}
 use Rattle.desk_batch.proofs.TargetLemmas.{rows_lack, same_cut, not_whole}
@@ -49,6 +50,32 @@ path_same a b (x ∷ xs) [] i j e =
     absurd (not_whole (rows_target b ++ []) (rows_target a) _ (record { before = rows_lack a i; whole = sym e }) (rows_target b) (rows_lack b j) (append-nil (rows_target b)))
 path_same a b (x ∷ xs) (y ∷ ys) i j e =
     (same_cut (rows_target a ++ query_text (x ∷ xs)) (rows_target a) _ (record { before = rows_lack a i; whole = refl }) (rows_target b) _ (rows_lack b j) e).0
+
+-- ---- what is asked without rows
+
+from_same : (target : List ℕ) (m n : ℕ) → IsJournalFrom target m → IsJournalFrom target n → m ≡ n
+from_same target m n (inl h) (inl k) = h.1 ∙ sym k.1
+from_same target m n (inl h) (inr k) = absurd (omega (arith, ap (λ t. get_or t 8 0) (sym h.0 ∙ k.1)))
+from_same target m n (inr h) (inl k) = absurd (omega (arith, ap (λ t. get_or t 8 0) (sym k.0 ∙ h.1)))
+from_same target m n (inr h) (inr k) =
+    decimal_injective m n (omega (arith, h.0)) (omega (arith, k.0)) (append_cancel_left (codes "/journal?from=") (decimal m) (decimal n) (sym h.1 ∙ k.1))
+
+journal_begins : (target : List ℕ) (n : ℕ) → IsJournalFrom target n → get_or target 1 0 ≡ 106
+journal_begins target n (inl h) = ap (λ t. get_or t 1 0) h.0
+journal_begins target n (inr h) = ap (λ t. get_or t 1 0) h.1
+
+revision_is_not_journal : (target : List ℕ) (q r : Query) → AsksRevision target q → ¬ (AsksJournal target r)
+revision_is_not_journal target q r h k = omega (arith, ap (λ t. get_or t 1 0) h.whole, journal_begins target k.from k.says)
+
+short_same : (target : List ℕ) (q r : Query) → IsShortQuestion target q → IsShortQuestion target r → q ≡ r
+short_same target q r (inl h) (inl k) = h.asks ∙ sym k.asks
+short_same target q r (inl h) (inr k) = absurd (revision_is_not_journal target q r h k)
+short_same target q r (inr h) (inl k) = absurd (revision_is_not_journal target r q k h)
+short_same target q r (inr h) (inr k) = h.asks ∙ ap (λ n. Journal n) (from_same target h.from k.from h.says k.says) ∙ sym k.asks
+
+short_is_not_rows : (target : List ℕ) (q r : Query) → IsShortQuestion target r → ¬ (AsksRows target q)
+short_is_not_rows target q r (inl k) h = omega (arith, ap (λ t. get_or t 1 0) h.whole, ap (λ t. get_or t 1 0) k.whole)
+short_is_not_rows target q r (inr k) h = omega (arith, ap (λ t. get_or t 1 0) h.whole, journal_begins target k.from k.says)
 
 -- ---- where a text is that of one cursor
 
@@ -93,9 +120,9 @@ module _ (one_cursor : (c d : Cursor) → IsCursor c → IsCursor d → cursor_t
 
   question_same : (target : List ℕ) (q r : Query) → IsQuestion target q → IsQuestion target r → q ≡ r
   question_same target q r (inl h) (inl k) = rows_same target q r h k
-  question_same target q r (inl h) (inr k) = absurd (omega (arith, ap (λ t. get_or t 1 0) (sym h.whole ∙ k.whole)))
-  question_same target q r (inr h) (inl k) = absurd (omega (arith, ap (λ t. get_or t 1 0) (sym h.whole ∙ k.whole)))
-  question_same target q r (inr h) (inr k) = h.asks ∙ sym k.asks
+  question_same target q r (inl h) (inr k) = absurd (short_is_not_rows target q r k h)
+  question_same target q r (inr h) (inl k) = absurd (short_is_not_rows target r q h k)
+  question_same target q r (inr h) (inr k) = short_same target q r h k
 
   get_is_not_post : (request : Request) → request.method ≡ codes "GET" → request.method ≢ codes "POST"
   get_is_not_post request e f = omega (arith, ap (λ t. get_or t 0 0) (sym e ∙ f))

@@ -1,5 +1,5 @@
 -- What a request asks for is served by the step.
-use Rattle.std.proofs.Common.{◌≡◌, ◌≤◌, true, ℕ, List, Result, Ok, Err, inl, inr, refl, sym, subst, arith}
+use Rattle.std.proofs.Common.{◌≡◌, true, Result, Ok, Err, inl, inr, refl, sym, subst, arith}
 use Rattle.serde_json.specs.Data.{Data}
 use Rattle.desk_base.specs.declared.rows.tables.AnyRow.{AnyRow}
 use Rattle.desk_base.specs.declared.rows.tables.AnyRow.TheVariants.{Group, Booking, Caller}
@@ -17,7 +17,7 @@ use Rattle.desk_json.specs.Bodies.{parsed, change_in}
 use Rattle.desk_json.specs.Faults.{◌>>=◌}
 use Rattle.desk_json.specs.declared.faults.BodyError.{BodyError}
 use Rattle.desk_wire.specs.declared.rules.Request.{Request}
-use Rattle.desk_batch.specs.Requesting.{IsAsked, IsBodyOf}
+use Rattle.desk_batch.specs.Requesting.{IsAsked}
 
 row_served : (row : AnyRow) → IsAskedRow row → is_master (key_of row).table ≡ true
 row_served (Group x) is = absurd is

@@ -1,5 +1,5 @@
 -- The pages that a conversation shows of one search over one revision join.
-use Rattle.std.proofs.Common.{◌≡◌, ◌==◌, ℕ, ◌≤◌, Bool, true, false, ◌&&◌, nat_le, List, [], ◌∷◌, map, length, Option, Some, None, inl, inr, refl, sym, ap, ◌∙◌, subst, arith, Contains}
+use Rattle.std.proofs.Common.{◌≡◌, ◌==◌, ℕ, ◌≤◌, Bool, true, false, nat_le, List, [], ◌∷◌, map, length, Option, Some, None, inl, inr, refl, sym, ap, ◌∙◌, subst, arith, Contains}
 use Rattle.std.proofs.lemmas.Bool.Decides.{nat_tests}
 use Rattle.std.specs.Prelude.{find, if◌then◌else◌, MatchOption, All}
 use Rattle.std.specs.Option.{option_or}
@@ -18,7 +18,7 @@ use Rattle.desk_base.specs.search.Page.{ResumePoint, beginning, next_point, IsAs
 use Rattle.desk_base.specs.search.Positions.{rows_among}
 use Rattle.desk_base.specs.declared.search.results.Found.{Found}
 use Rattle.desk_base.specs.rules.Sound.{IsSound}
-use Rattle.desk_base.specs.asked.Steps.{IsTurn, IsAnswer, point_of, refused_limit, refused_per}
+use Rattle.desk_base.specs.asked.Steps.{IsTurn, IsAnswer, point_of, refused_per}
 use Rattle.desk_base.specs.declared.asked.acts.Entry.{Entry}
 use Rattle.desk_base.specs.declared.search.results.Cursor.{Cursor}
 use Rattle.desk_base.specs.declared.asked.rules.Field.TheVariants.{Limit, Per}

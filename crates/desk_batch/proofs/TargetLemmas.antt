@@ -1,10 +1,10 @@
 -- What stands between a front and a back is found by cutting both off, and a target is cut at its first `?`.
-use Rattle.std.proofs.Common.{◌≡◌, ◌≢◌, ℕ, suc, add-one, ◌+◌, ◌-◌, ◌<◌, ◌≤◌, ◌==◌, Bool, true, false, List, [], ◌∷◌, ◌++◌, length, take, drop, drop-cons, get_or, codes, decimal, All, Option, Some, None, Result, Ok, Err, IfOk, MatchOption, Bor, refl, sym, ap, subst, ◌∙◌, inl, inr, arith}
+use Rattle.std.proofs.Common.{◌≡◌, ◌≢◌, ℕ, suc, add-one, ◌+◌, ◌-◌, ◌<◌, ◌≤◌, ◌^◌, ◌==◌, Bool, true, false, List, [], ◌∷◌, ◌++◌, length, take, drop, drop-cons, get_or, codes, decimal, All, Option, Some, None, Result, Ok, Err, IfOk, MatchOption, Bor, refl, sym, ap, subst, ◌∙◌, inl, inr, arith}
 use Rattle.std.specs.List.{slice_split, position, position_or_len}
-use Rattle.std.proofs.lemmas.Bool.{ne_eqb}
 use Rattle.std.proofs.lemmas.Bool.Decides.{nat_tests}
 use Rattle.std.proofs.lemmas.List.{append_cancel_left, append_cancel_right, append_assoc, append-nil, take-append-drop, get_or-take, length-take, length-drop, take_all}
 use Rattle.std.proofs.lemmas.List.Elements.{All-from_recursion, All-append, All-nil, All-from_get_or}
+use Rattle.std.proofs.lemmas.Fmt.{decimal_injective}
 use Rattle.std.proofs.lemmas.Grind.{common_steps}
 use Rattle.std.proofs.lemmas.List.Quantifiers.{position-Some}
 use Rattle.std.proofs.lemmas.List.Sums.{fails_before_first}
@@ -12,12 +12,12 @@ use Rattle.std.proofs.lemmas.List.Splits.{slice_split_none, slice_split_at}
 use Rattle.desk_base.specs.declared.values.memory.NoMemory.{NoMemory}
 use Rattle.desk_base.specs.declared.asked.answers.Command.{Command}
 use Rattle.desk_base.specs.declared.asked.answers.Query.{Query}
-use Rattle.desk_base.specs.declared.asked.answers.Query.TheVariants.{Revision}
+use Rattle.desk_base.specs.rules.Limits.{revision_limit}
 use Rattle.desk_wire.specs.declared.rules.Request.{Request}
 use Rattle.desk_json.specs.Decimals.{IsId, ReadsId}
 use Rattle.desk_batch.specs.Paging.{IsPart, asked_by, nothing_asked, query_text, AreParts}
-use Rattle.desk_batch.specs.Requesting.{rows_target, rows_of, AsksRows, AsksRevision, IsQuestion, IsBodyOf, IsGot, IsPosted, IsAsked}
-use Rattle.desk_batch.specs.RequestReading.{Finds, IsAskedBehind, IsCut, AsksFirstRows, AsksRowsBehind}
+use Rattle.desk_batch.specs.Requesting.{rows_target, rows_of, AsksRows, AsksRevision, AsksJournal, IsJournalFrom, IsQuestion, IsBodyOf, IsGot, IsPosted, IsAsked}
+use Rattle.desk_batch.specs.RequestReading.{Finds, IsAskedBehind, IsCut, IsRevisionOf, IsRevisionBehind, IsShortQuestion, AsksFirstRows, AsksRowsBehind}
 use Rattle.desk_batch.specs.declared.paging.Asked.{Asked}
 use Rattle.desk_batch.specs.declared.paging.Part.{Part}
 use Rattle.desk_batch.proofs.PieceLemmas.{Lacks, decimal_lacks, some_pieces}
@@ -158,11 +158,28 @@ no_query path text none query is = none is.asked is.is_asked
 pub no_revision : (target : List ℕ) → target ≢ codes "/revision" → (query : Query) → ¬ (AsksRevision target query)
 no_revision target other query is = other is.whole
 
--- rows or nothing, where the revision is not asked for
-pub rows_or_revision : (target : List ℕ) (r : Result (Option Query) NoMemory) → ((query : Query) → ¬ (AsksRevision target query)) → IfOk r (λ query. Finds (AsksRows target) query) → IfOk r (λ query. Finds (IsQuestion target) query)
-rows_or_revision target (Ok (Some query)) none h = inl h
-rows_or_revision target (Ok None) none h = λ query is. elim is [ inl rows ↦ h query rows | inr revision ↦ none query revision ]
-rows_or_revision target (Err e) none h = tt
+-- a number above every revision is none
+pub no_revision_of : (text : List ℕ) (number : ℕ) → text ≡ decimal number → number < 2 ^ 64 → revision_limit < number → (n : ℕ) → ¬ (IsRevisionOf text n)
+no_revision_of text number written small great n is = let same : n ≡ number = decimal_injective n number (omega (arith, is.0)) small (sym is.1 ∙ written) in omega (arith, same, great, is.0)
+
+-- a revision behind a name, or none where the name alone is not given
+pub journal_above : (target : List ℕ) (r : Option ℕ) → target ≢ codes "/journal" → Finds (IsRevisionBehind (codes "/journal?from=") target) r → Finds (IsJournalFrom target) r
+journal_above target (Some n) other h = inr h
+journal_above target None other h = λ n is. elim is [ inl bare ↦ other bare.0 | inr behind ↦ h n behind ]
+
+pub no_journal : (target : List ℕ) → ((n : ℕ) → ¬ (IsJournalFrom target n)) → (query : Query) → ¬ (AsksJournal target query)
+no_journal target none query is = none is.from is.says
+
+-- the journal or nothing, where the revision is not asked for
+pub journal_or_revision : (target : List ℕ) (r : Option Query) → ((query : Query) → ¬ (AsksRevision target query)) → Finds (AsksJournal target) r → Finds (IsShortQuestion target) r
+journal_or_revision target (Some query) none h = inr h
+journal_or_revision target None none h = λ query is. elim is [ inl revision ↦ none query revision | inr journal ↦ h query journal ]
+
+-- rows or nothing, where nothing short is asked
+pub rows_or_short : (target : List ℕ) (r : Result (Option Query) NoMemory) → ((query : Query) → ¬ (IsShortQuestion target query)) → IfOk r (λ query. Finds (AsksRows target) query) → IfOk r (λ query. Finds (IsQuestion target) query)
+rows_or_short target (Ok (Some query)) none h = inl h
+rows_or_short target (Ok None) none h = λ query is. elim is [ inl rows ↦ h query rows | inr short ↦ none query short ]
+rows_or_short target (Err e) none h = tt
 
 -- nothing is got where no question is asked
 pub no_got : (request : Request) → ((query : Query) → ¬ (IsQuestion request.target query)) → (command : Command) → ¬ (IsGot request command)

@@ -1,5 +1,5 @@
 -- The query of a page: parameters with their values, joined by `&` behind a `?`.
-use Rattle.std.specs.Prelude.{◌≡◌, ℕ, ◌<◌, ◌^◌, nat_le, Bool, true, false, List, [], ◌∷◌, ◌++◌, codes, decimal, map, fold, Option, Some, None, All, ⊤}
+use Rattle.std.specs.Prelude.{◌≡◌, ℕ, ◌<◌, ◌^◌, nat_le, Bool, true, false, List, [], ◌∷◌, ◌++◌, codes, decimal, map, fold, Some, None, All, ⊤}
 use Rattle.std.specs.List.{count_by, join_with_byte, list_all}
 use Rattle.desk_time.specs.Limits.{IsMoment}
 use Rattle.desk_time.specs.Moments.{moment_text}

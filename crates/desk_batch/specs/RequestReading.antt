@@ -1,7 +1,8 @@
 -- How the target of a request is read, piece by piece.
-use Rattle.std.specs.Prelude.{◌≡◌, ℕ, ◌<◌, ◌^◌, List, [], ◌∷◌, ◌++◌, codes, decimal, map, All, ◌==◌, false, Option, Some, None}
+use Rattle.std.specs.Prelude.{◌≡◌, ℕ, ◌<◌, ◌≤◌, ◌^◌, ◌⊎◌, List, ◌∷◌, ◌++◌, codes, decimal, map, All, ◌==◌, false, Option, Some, None}
 use Rattle.desk_base.specs.declared.asked.answers.Query.{Query}
 use Rattle.desk_base.specs.declared.search.results.Cursor.{Cursor}
+use Rattle.desk_base.specs.rules.Limits.{revision_limit}
 use Rattle.desk_time.specs.Limits.{IsMoment}
 use Rattle.desk_time.specs.Moments.{moment_text}
 use Rattle.desk_json.specs.Decimals.{IsId}
@@ -9,7 +10,7 @@ use Rattle.desk_batch.specs.declared.paging.Asked.{Asked}
 use Rattle.desk_batch.specs.declared.paging.Part.{Part}
 use Rattle.desk_batch.specs.declared.paging.Part.TheVariants.{Limit, After, Latest, From, To, Per}
 use Rattle.desk_batch.specs.Paging.{part_text, IsPart, AreParts, nothing_asked, asked_by, query_text}
-use Rattle.desk_batch.specs.Requesting.{rows_target, rows_of}
+use Rattle.desk_batch.specs.Requesting.{rows_target, rows_of, AsksRevision, AsksJournal}
 
 -- a value of which this holds, or none where it holds of none
 abbrev pub Finds : {A : Type 0} → (A → Type 0) → Option A → Type 0
@@ -88,3 +89,15 @@ pub record AsksRowsBehind (path text : List ℕ) (query : Query) : Type 0 where
   pub path_is : path ≡ rows_target group
   pub is_asked : IsAskedBehind text asked
   pub asks : query ≡ rows_of group asked
+
+-- the text is a revision
+abbrev pub IsRevisionOf : List ℕ → ℕ → Type 0
+IsRevisionOf text n = (n ≤ revision_limit) × (text ≡ decimal n)
+
+-- the same behind a name
+abbrev pub IsRevisionBehind : List ℕ → List ℕ → ℕ → Type 0
+IsRevisionBehind name text n = (n ≤ revision_limit) × (text ≡ name ++ decimal n)
+
+-- the target asks a question whose reading takes no memory
+abbrev pub IsShortQuestion : List ℕ → Query → Type 0
+IsShortQuestion target query = AsksRevision target query ⊎ AsksJournal target query

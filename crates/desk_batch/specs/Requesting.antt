@@ -1,9 +1,10 @@
 -- Which requests ask for what, and how every other request is refused.
-use Rattle.std.specs.Prelude.{◌≡◌, ◌⊎◌, ℕ, List, ◌++◌, codes, decimal, unwrap_or, Ok}
+use Rattle.std.specs.Prelude.{◌≡◌, ◌≤◌, ◌⊎◌, ℕ, List, ◌++◌, codes, decimal, unwrap_or, Ok}
 use Rattle.desk_base.specs.declared.asked.answers.Command.{Command as Asked}
 use Rattle.desk_base.specs.declared.asked.answers.Command.TheVariants.{Ask}
 use Rattle.desk_base.specs.declared.asked.answers.Query.{Query}
-use Rattle.desk_base.specs.declared.asked.answers.Query.TheVariants.{Rows, Revision}
+use Rattle.desk_base.specs.declared.asked.answers.Query.TheVariants.{Rows, Revision, Journal}
+use Rattle.desk_base.specs.rules.Limits.{revision_limit}
 use Rattle.desk_wire.specs.declared.rules.Request.{Request}
 use Rattle.desk_json.specs.Decimals.{IsId}
 use Rattle.desk_batch.specs.Paging.{asked_by, query_text, AreParts}
@@ -40,9 +41,19 @@ pub record AsksRevision (target : List ℕ) (query : Query) : Type 0 where
   pub whole : target ≡ codes "/revision"
   pub asks : query ≡ Revision
 
+-- the target says above which revision
+abbrev pub IsJournalFrom : List ℕ → ℕ → Type 0
+IsJournalFrom target from = ((target ≡ codes "/journal") × (from ≡ 0)) ⊎ ((from ≤ revision_limit) × (target ≡ codes "/journal?from=" ++ decimal from))
+
+-- the target asks for the entries of the journal above a revision
+pub record AsksJournal (target : List ℕ) (query : Query) : Type 0 where
+  pub from : ℕ
+  pub says : IsJournalFrom target from
+  pub asks : query ≡ Journal from
+
 -- the target asks this question
 abbrev pub IsQuestion : List ℕ → Query → Type 0
-IsQuestion target query = AsksRows target query ⊎ AsksRevision target query
+IsQuestion target query = AsksRows target query ⊎ AsksRevision target query ⊎ AsksJournal target query
 
 -- the request gets the answer to a question
 pub record IsGot (request : Request) (command : Asked) : Type 0 where

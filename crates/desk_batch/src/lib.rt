@@ -5,6 +5,7 @@
 #![tactic(auto)]
 
 mod bodies;
+mod journals;
 pub mod laws;
 mod paging;
 mod program;

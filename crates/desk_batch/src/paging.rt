@@ -44,7 +44,7 @@ pub(crate) struct Asked {
 }
 
 /// What stands behind a name.
-fn behind<'a>(name: &[u8], piece: &'a [u8]) -> Option<&'a [u8]>
+pub fn behind<'a>(name: &[u8], piece: &'a [u8]) -> Option<&'a [u8]>
     ensures { MatchOption result
         ((rest : List ℕ) → piece.now ≢ name.now ++ rest)
         (λ rest. piece.now ≡ name.now ++ rest.now) }

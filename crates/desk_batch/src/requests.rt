@@ -3,9 +3,10 @@ ghost use Rattle.std.specs.Prelude.{◌≡◌, ◌≢◌, ◌==◌, ◌↔◌, �
 ghost use Rattle.std.specs.List.{position};
 ghost use Rattle.desk_json.specs.Decimals.{IsId};
 ghost use Rattle.desk_batch.specs.Requesting.{AsksRevision, AsksRows, IsAsked, IsGot, IsPosted, IsQuestion, Reads, rows_of, rows_target};
-ghost use Rattle.desk_batch.specs.RequestReading.{AsksFirstRows, AsksRowsBehind, Finds, IsCut};
+ghost use Rattle.desk_batch.specs.RequestReading.{AsksFirstRows, AsksRowsBehind, Finds, IsCut, IsShortQuestion};
 
 use crate::bodies::read_body;
+use crate::journals::read_journal;
 use crate::paging::{Asked, nothing_asked, read_query};
 use desk_base::{Command, GroupId, NoMemory, Options, Query};
 use desk_json::read_id;
@@ -133,10 +134,19 @@ fn read_revision(target: &[u8]) -> Option<Query>
     }
 }
 
+fn read_short(target: &[u8]) -> Option<Query>
+    ensures { Finds (IsShortQuestion target.now) result }
+{
+    match read_revision(target) {
+        Some(query) => Some(query),
+        None => read_journal(target),
+    }
+}
+
 fn read_question(alloc: Global, target: &[u8]) -> Result<Option<Query>, NoMemory>
     ensures { IfOk result (λ query. Finds (IsQuestion target.now) query) }
 {
-    match read_revision(target) {
+    match read_short(target) {
         Some(query) => Ok(Some(query)),
         None => read_rows(alloc, target),
     }
@@ -183,10 +193,11 @@ fn read_command(alloc: Global, request: &Request) -> Result<Option<Command>, NoM
 
 /// The command that a request asks for.
 ///
-/// Served are `GET /revision`; `GET /groups/ID/rows`, with ID from 1 to 999,999,999 in decimal, and with a query of
-/// `limit=N`, N below 2^32 in decimal, `after=CURSOR`, `at=latest`, `from=MOMENT` and `to=MOMENT`, each at most once and in
-/// any order; and `POST /changes`, where the body asks for a change. The query is read literally: what is percent-encoded,
-/// named otherwise, empty or given twice is not built. The body of a GET is not looked at.
+/// Served are `GET /revision`; `GET /journal`, alone or with the query `from=N`, N from 0 to 10^15 in decimal;
+/// `GET /groups/ID/rows`, with ID from 1 to 999,999,999 in decimal, and with a query of `limit=N`, N below 2^32 in decimal,
+/// `after=CURSOR`, `at=latest`, `from=MOMENT` and `to=MOMENT`, each at most once and in any order; and `POST /changes`, where
+/// the body asks for a change. The query is read literally: what is percent-encoded, named otherwise, empty or given twice is
+/// not built. The body of a GET is not looked at.
 pub fn read_request(alloc: Global, request: &Request) -> Result<Routed, NoMemory>
     ensures { IfOk result (Reads request.now) }
 {

@@ -1,5 +1,5 @@
 //! Changes of a schedule over one connection, and what is answered.
-use crate::runs::{EMPTY, Exchange, OK, TRIAL, holds};
+use crate::runs::{EMPTY, Exchange, NOT_BUILT, OK, TRIAL, holds};
 use std::test::Fail;
 
 const POST: &str = "POST /changes";
@@ -302,12 +302,66 @@ const FROM_NOTHING: [Exchange<'static>; 9] = [
     ("GET /revision", "", OK, "{\"revision\":7}"),
 ];
 
+const BOTH_ENTRIES: &str =
+    "{\"entries\":[{\"act\":\"put_group\",\"caller\":7,\"number\":1,\"pass\":0,\"revision\":1},{\"act\":\"book_group\",\"caller\":7,\"number\":2,\"pass\":0,\"revision\":2}],\"revision\":2}";
+
+/// The journal above a revision.
+const JOURNAL: [Exchange<'static>; 7] = [
+    ("GET /journal", "", OK, "{\"entries\":[],\"revision\":0}"),
+    (
+        POST,
+        "{\"act\":\"put_group\",\"caller\":7,\"number\":1,\"id\":2,\"name\":\"Visit\",\"from\":\"2025-01-06T08:00Z\",\"to\":\"2025-01-06T12:00Z\",\"step\":60,\"tree\":{\"leaf\":{\"duration\":60,\"effort\":1}}}",
+        OK,
+        PUT_AT_1,
+    ),
+    (
+        POST,
+        "{\"act\":\"book_group\",\"caller\":7,\"number\":2,\"group\":1,\"start\":\"2025-01-06T08:00Z\",\"picks\":[1]}",
+        OK,
+        "{\"bookings\":[1],\"done\":\"booked\",\"effort_minutes\":60,\"repeated\":false,\"revision\":2}",
+    ),
+    ("GET /journal", "", OK, BOTH_ENTRIES),
+    ("GET /journal?from=0", "", OK, BOTH_ENTRIES),
+    (
+        "GET /journal?from=1",
+        "",
+        OK,
+        "{\"entries\":[{\"act\":\"book_group\",\"caller\":7,\"number\":2,\"pass\":0,\"revision\":2}],\"revision\":2}",
+    ),
+    (
+        "GET /journal?from=1000000000000000",
+        "",
+        OK,
+        "{\"entries\":[],\"revision\":2}",
+    ),
+];
+
+#[test]
+fn targets_near_the_journal_are_not_built(rt: HostRuntime) -> Result<(), Fail> {
+    let exchanges = [
+        ("GET /journal?from=01", "", NOT_BUILT.0, NOT_BUILT.1),
+        (
+            "GET /journal?from=1000000000000001",
+            "",
+            NOT_BUILT.0,
+            NOT_BUILT.1,
+        ),
+        ("GET /journal?", "", NOT_BUILT.0, NOT_BUILT.1),
+        ("GET /journal?from=", "", NOT_BUILT.0, NOT_BUILT.1),
+        ("GET /journal?from=+1", "", NOT_BUILT.0, NOT_BUILT.1),
+        ("GET /journal?from=1&from=1", "", NOT_BUILT.0, NOT_BUILT.1),
+        ("POST /journal", "", NOT_BUILT.0, NOT_BUILT.1),
+    ];
+    holds(&rt, rt.alloc(), TRIAL, &exchanges)
+}
+
 #[test]
 fn changes_of_the_trial_tables(rt: HostRuntime) -> Result<(), Fail> {
     let alloc = rt.alloc();
     holds(&rt, alloc, TRIAL, &NOTHING_FITS)?;
     holds(&rt, alloc, TRIAL, &TOUCHING_ENDS)?;
     holds(&rt, alloc, TRIAL, &LATER_LEAF)?;
+    holds(&rt, alloc, TRIAL, &JOURNAL)?;
     holds(&rt, alloc, TRIAL, &CONFLICT_WITH_A_BOOKING)?;
     holds(&rt, alloc, TRIAL, &REFUSED_BOOKINGS)?;
     holds(&rt, alloc, TRIAL, &CANCELLED_ONCE)?;
