@@ -7,3 +7,4 @@ pub mod Judged
 pub mod Revisions
 pub mod Unrefused
 pub mod Outcomes
+pub mod Promised

@@ -5,3 +5,4 @@ pub mod Answering
 pub mod Effects
 pub mod Entered
 pub mod Journaled
+pub mod Promises

@@ -1,14 +1,16 @@
 //! A schedule with the journal of its changes. A book is always sound, its index is that of its tables, its journal is
 //! legal over the tables that it was opened with, and its tables are those after its journal: no call can lose that.
-ghost use Rattle.std.specs.Prelude.{◌≡◌, [], IfOk, IfErr};
+ghost use Rattle.std.specs.Prelude.{◌≡◌, [], map, IfOk, IfErr};
 ghost use Rattle.desk_base.specs.asked.Histories.{IsLegal, after_journal};
 ghost use Rattle.desk_base.specs.rules.Sound.{IsSound};
-ghost use Rattle.desk_base.specs.asked.Steps.{IsTurn};
+ghost use Rattle.desk_base.specs.asked.Steps.{IsTurn, IsUnchanged};
+ghost use Rattle.desk_base.specs.meaning.Load.{Fits, ask_of};
 ghost use Rattle.desk_base.specs.declared.asked.answers.Command.TheVariants.{Change};
 ghost use Rattle.desk_change.specs.Served.{IsServed};
 ghost use Rattle.desk_load.specs.Index.{IsIndexOf};
 ghost use Rattle.desk_core.specs.Answering.{IsAnswerOrNone};
 ghost use Rattle.desk_core.specs.Built.{IsBuilt};
+ghost use Rattle.desk_core.specs.Promises.{AreBookedWhole, IsFirstReason, IsNothingDone};
 
 use crate::answering::answer;
 use crate::changing::carry_out;
@@ -116,6 +118,7 @@ impl Book {
     fn answered(&self, outcome: Outcome) -> Answer
         ensures outcome { result.outcome ≡ outcome }
         ensures revision { result.revision ≡ self.now.tables.revision }
+        ensures sound { IsSound self.now.tables }
     {
         Answer {
             revision: self.tables().revision,
@@ -124,14 +127,19 @@ impl Book {
     }
 
     /// One step of the one-thread scheduler: what a command comes to, with the revision after it. `pass` is the number of the
-    /// connection that asks. All memory is taken before anything changes: where it is not found, and after a refusal, the
-    /// book is as before.
+    /// connection that asks. All memory is taken before anything changes: where it is not found, after a refusal, and where a
+    /// change is repeated, the book is as before. After each step a group is booked whole or not at all, and at no minute is a
+    /// resource above its room.
     #[tactic(none)]
     pub fn step(&mut self, alloc: Global, pass: u64, command: &Command) -> Answer
         requires { IsBuilt command.now }
         ensures step { IsTurn self.old.tables self.old.journal pass command.now result.outcome self.new.tables self.new.journal }
         ensures revision { result.revision ≡ self.new.tables.revision }
         ensures opened { self.new.opened ≡ self.old.opened }
+        ensures first_reason { IsFirstReason self.old.tables self.old.journal command.now result.outcome }
+        ensures nothing_done { IsNothingDone result.outcome → IsUnchanged self.old.tables self.old.journal self.new.tables self.new.journal }
+        ensures booked_whole { AreBookedWhole self.new.tables }
+        ensures within_room { Fits self.new.tables (map ask_of self.new.tables.bookings) }
     {
         match command {
             Command::Change(call, act) => {

@@ -3,7 +3,9 @@ use Rattle.desk_base.specs.declared.asked.answers.Command.{Command}
 use Rattle.desk_base.specs.declared.asked.answers.Outcome.{Outcome}
 use Rattle.desk_base.specs.asked.Steps.{IsTurn}
 use Rattle.desk_core.specs.Built.{IsBuilt}
+use Rattle.desk_base.proofs.tables.Sounds.{bookings_fit}
 use Rattle.desk_core.proofs.Outcomes.{asked_turn}
+use Rattle.desk_core.proofs.Promised.{turn_first, turn_leaves, booked_whole}
 use Rattle.desk_core.proofs.book.Book.step.Goals as goal
 
 pub change-outcome-requires : goal.change-outcome-requires
@@ -31,3 +33,31 @@ returns-in-Ask-clause-revision c = c.answered-in-Ask.ensures.revision
 
 pub returns-in-Ask-clause-opened : goal.returns-in-Ask-clause-opened
 returns-in-Ask-clause-opened c = refl
+
+pub returns-in-Change-clause-first_reason : goal.returns-in-Change-clause-first_reason
+returns-in-Change-clause-first_reason c =
+    turn_first c.args.self.now.tables c.change-outcome.new.self.tables c.args.self.now.journal c.change-outcome.new.self.journal c.args.pass c.args.command.now c.answered.result.outcome (returns-in-Change-clause-step c)
+
+pub returns-in-Change-clause-nothing_done : goal.returns-in-Change-clause-nothing_done
+returns-in-Change-clause-nothing_done c =
+    turn_leaves c.args.self.now.tables c.change-outcome.new.self.tables c.args.self.now.journal c.change-outcome.new.self.journal c.args.pass c.args.command.now c.answered.result.outcome (returns-in-Change-clause-step c)
+
+pub returns-in-Change-clause-booked_whole : goal.returns-in-Change-clause-booked_whole
+returns-in-Change-clause-booked_whole c = booked_whole c.change-outcome.new.self.tables c.answered.ensures.sound
+
+pub returns-in-Change-clause-within_room : goal.returns-in-Change-clause-within_room
+returns-in-Change-clause-within_room c = bookings_fit c.change-outcome.new.self.tables c.answered.ensures.sound
+
+pub returns-in-Ask-clause-first_reason : goal.returns-in-Ask-clause-first_reason
+returns-in-Ask-clause-first_reason c =
+    turn_first c.args.self.now.tables c.args.self.now.tables c.args.self.now.journal c.args.self.now.journal c.args.pass c.args.command.now c.answered-in-Ask.result.outcome (returns-in-Ask-clause-step c)
+
+pub returns-in-Ask-clause-nothing_done : goal.returns-in-Ask-clause-nothing_done
+returns-in-Ask-clause-nothing_done c =
+    turn_leaves c.args.self.now.tables c.args.self.now.tables c.args.self.now.journal c.args.self.now.journal c.args.pass c.args.command.now c.answered-in-Ask.result.outcome (returns-in-Ask-clause-step c)
+
+pub returns-in-Ask-clause-booked_whole : goal.returns-in-Ask-clause-booked_whole
+returns-in-Ask-clause-booked_whole c = booked_whole c.args.self.now.tables c.answered-in-Ask.ensures.sound
+
+pub returns-in-Ask-clause-within_room : goal.returns-in-Ask-clause-within_room
+returns-in-Ask-clause-within_room c = bookings_fit c.args.self.now.tables c.answered-in-Ask.ensures.sound
