@@ -15,3 +15,5 @@ mod lines;
 mod refusals;
 #[cfg(test)]
 mod steps;
+#[cfg(test)]
+mod worked;
