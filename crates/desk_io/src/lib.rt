@@ -10,6 +10,7 @@ mod bytes;
 mod errors;
 mod memory_sink;
 mod memory_source;
+mod std_answers;
 mod std_sink;
 mod std_source;
 mod traits;
