@@ -24,9 +24,9 @@ abbrev pub IsUntouched : {S : Type 0} → S → S → ℕ → ℕ → Fed → Fe
 IsUntouched old new before after fed now = BeginsWhole fed.rest → (new ≡ old) × (after ≡ before) × (now.rest ≡ fed.rest)
 
 -- one piece more
-pub fills_more : {old mid new : Option (List ℕ)} {before taken n : ℕ} {fed at front now : Fed} (had : Fills old mid before taken fed at) → front.rest ≡ at.rest → front.ended ≡ None
+pub fills_more : {old mid new : Option (List ℕ)} {before taken n : ℕ} {fed at now : Fed} (front : Fed) (had : Fills old mid before taken fed at) → front.rest ≡ at.rest → front.ended ≡ None
     → (more : List ℕ) × Consumes mid new more × (length more ≡ n) × (now.rest ≡ front.rest ++ more) × (now.ended ≡ front.ended) → Fills old new before (taken + n) fed now
-fills_more {old = old} {mid = mid} {new = new} {fed = fed} had same waits got = record {
+fills_more {old = old} {mid = mid} {new = new} {fed = fed} front had same waits got = record {
   more = had.more ++ got.0;
   taken = Consumes-trans old mid new had.more got.0 had.taken got.1;
   count = omega (arith, had.count, got.2, length-append had.more got.0);

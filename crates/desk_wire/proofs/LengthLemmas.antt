@@ -7,7 +7,7 @@ use Rattle.httparse.specs.Spans.{header_bytes}
 use Rattle.httparse.specs.declared.spans.HeaderSpan.{HeaderSpan}
 use Rattle.desk_wire.specs.Framing.{is_named, lengths, framing_by_lengths}
 use Rattle.desk_wire.specs.declared.framing.Framing.TheVariants.{Bad}
-use Rattle.desk_wire.specs.declared.rules.HeadRule.TheVariants.{NotBuilt}
+use Rattle.desk_wire.specs.declared.rules.HeadRule.TheVariants.{Length}
 
 -- the fields that the headers cover
 abbrev pub fields_of : List ℕ → List HeaderSpan → List (List ℕ × List ℕ)
@@ -54,7 +54,7 @@ length_first buf headers i within e none = lengths_next buf headers i true withi
 
 -- the field says a second length
 pub length_second : (buf : List ℕ) (headers : List HeaderSpan) (i : ℕ) (first : List ℕ) → i < length headers → true ≡ is_length (field_at buf headers i)
-    → lengths (fields_of buf (take i headers)) ≡ first ∷ [] → Bad NotBuilt ≡ framing_by_lengths (lengths (fields_of buf headers))
+    → lengths (fields_of buf (take i headers)) ≡ first ∷ [] → Bad Length ≡ framing_by_lengths (lengths (fields_of buf headers))
 unfolding values
 length_second buf headers i first within e one =
     let behind = drop (i + 1) headers in

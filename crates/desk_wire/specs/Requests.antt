@@ -4,7 +4,7 @@ use Rattle.std.specs.Prelude.{◌≡◌, ◌≢◌, ℕ, ◌<◌, ◌⊎◌, fal
 use Rattle.httparse.specs.Grammar.{RequestHead, print_request, ReadsRequest, HasNoRequest, NeverHasRequest, MayBecomeRequest}
 use Rattle.desk_wire.specs.Limits.{most_head_bytes, most_head_lines}
 use Rattle.desk_wire.specs.Front.{front, line_feeds}
-use Rattle.desk_wire.specs.Framing.{framing}
+use Rattle.desk_wire.specs.Framing.{framing, closes}
 use Rattle.desk_wire.specs.declared.framing.Framing.TheVariants as framed
 use Rattle.desk_wire.specs.declared.rules.HeadRule.{HeadRule}
 use Rattle.desk_wire.specs.declared.rules.HeadRule.TheVariants.{Syntax}
@@ -20,7 +20,7 @@ HasHead bytes h after = ((more : List ℕ) × ReadsRequest (front bytes) h more)
 
 -- the request that a head and its body are
 abbrev pub request_of : RequestHead → List ℕ → Request
-request_of h body = record { method = h.method; target = h.target; version = h.minor; close = false; body = body }
+request_of h body = record { method = h.method; target = h.target; version = h.minor; close = closes h; body = body }
 
 -- the bytes are a head, the body of the length that the head says, and this rest
 pub record IsWhole (bytes : List ℕ) (q : Request) (rest : List ℕ) : Type 0 where

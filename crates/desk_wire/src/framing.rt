@@ -1,11 +1,11 @@
-//! What a head says of the bytes that stand behind it.
-ghost use Rattle.std.specs.Prelude.{◌≡◌, length, map, All};
+//! How a head says that its body is sent.
+ghost use Rattle.std.specs.Prelude.{◌≡◌, ℕ, List, ◌∷◌, length, map, All};
 ghost use Rattle.std.specs.List.{list_any};
 ghost use Rattle.httparse.specs.Spans.{IsHeaderWithin, header_bytes};
-ghost use Rattle.desk_wire.specs.Framing.{is_named, is_transfer, lengths, framing_by_lengths, framing_by};
+ghost use Rattle.desk_wire.specs.Framing.{is_transfer, lengths, framing_by_lengths, framing_by};
 
 use crate::lengths::framing_of_value;
-use crate::names::is_name;
+use crate::names::has_name;
 use crate::rules::{HeadRule, WireLimit};
 use httparse::spans::HeaderSpan;
 
@@ -17,18 +17,11 @@ pub enum Framing {
     TooLarge(WireLimit),
 }
 
-fn has_name(buf: &[u8], header: &HeaderSpan, name: &[u8]) -> bool
-    requires { IsHeaderWithin (length buf.now) header.now }
-    ensures { result ≡ is_named name.now (header_bytes buf.now header.now) }
-{
-    is_name(header.name.of(buf), name)
-}
-
 fn says_transfer(buf: &[u8], header: &HeaderSpan) -> bool
     requires { IsHeaderWithin (length buf.now) header.now }
     ensures { result ≡ is_transfer (header_bytes buf.now header.now) }
 {
-    has_name(buf, header, b"transfer-encoding") || has_name(buf, header, b"connection")
+    has_name(buf, header, b"transfer-encoding")
 }
 
 fn any_transfer(buf: &[u8], headers: &[HeaderSpan]) -> bool
@@ -36,6 +29,13 @@ fn any_transfer(buf: &[u8], headers: &[HeaderSpan]) -> bool
     ensures { result ≡ list_any (λ h. is_transfer (header_bytes buf.now h)) headers.now }
 {
     headers.iter().any(|header| says_transfer(buf, header))
+}
+
+// What two length fields say, or more: nothing, whatever the last of them is.
+fn framing_of_two(_last: &[u8]) -> Framing
+    ensures { (first last : List ℕ) (more : List (List ℕ)) → result ≡ framing_by_lengths (first ∷ last ∷ more) }
+{
+    Framing::Bad(HeadRule::Length)
 }
 
 // What the length fields say.
@@ -46,10 +46,11 @@ fn framing_of_lengths(buf: &[u8], headers: &[HeaderSpan]) -> Framing
     let mut length: Option<&[u8]> = None;
     for header in headers {
         if has_name(buf, header, b"content-length") {
+            let value = header.value.of(buf);
             if length.is_some() {
-                return Framing::Bad(HeadRule::NotBuilt);
+                return framing_of_two(value);
             }
-            length = Some(header.value.of(buf));
+            length = Some(value);
         }
     }
     match length {
@@ -58,13 +59,13 @@ fn framing_of_lengths(buf: &[u8], headers: &[HeaderSpan]) -> Framing
     }
 }
 
-/// What a head of this minor version and with these fields says.
-pub fn framing_of(buf: &[u8], version: u8, headers: &[HeaderSpan]) -> Framing
+/// What a head with these fields says.
+pub fn framing_of(buf: &[u8], headers: &[HeaderSpan]) -> Framing
     requires { All (IsHeaderWithin (length buf.now)) headers.now }
-    ensures { result ≡ framing_by version (map (header_bytes buf.now) headers.now) }
+    ensures { result ≡ framing_by (map (header_bytes buf.now) headers.now) }
 {
-    if version != 1 || any_transfer(buf, headers) {
-        return Framing::Bad(HeadRule::NotBuilt);
+    if any_transfer(buf, headers) {
+        return Framing::Bad(HeadRule::Transfer);
     }
     framing_of_lengths(buf, headers)
 }

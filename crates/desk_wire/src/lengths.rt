@@ -39,7 +39,7 @@ pub fn framing_of_value(value: &[u8]) -> Framing
     ensures { result ≡ framing_by_value value.now }
 {
     if !writes_number(value) {
-        return Framing::Bad(HeadRule::NotBuilt);
+        return Framing::Bad(HeadRule::Length);
     }
     let size = capped_number(value);
     if size > MOST_BODY_BYTES {

@@ -2,10 +2,11 @@
 //!
 //! A `Framer` is fed bytes in pieces and gives the whole requests at their front. What it gives is a fact of the bytes
 //! alone (`Requests`), so it does not matter how they were cut: `one_reading`, `fronts_stay` and `one_border` are its
-//! laws. A head is what `httparse` reads as one, of at most 16,384 bytes and 96 line feeds, and its body has as many bytes
-//! as its `Content-Length` says, at most 65,536. `response_bytes` writes a response.
+//! laws. A head is what `httparse` reads as one, of version 1.0 or 1.1, of at most 16,384 bytes and 96 line feeds, and its body
+//! has as many bytes as its `Content-Length` says, at most 65,536. `response_bytes` writes a response.
 #![tactic(auto)]
 
+mod closing;
 mod framer;
 mod framing;
 mod front;

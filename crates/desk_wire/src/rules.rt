@@ -6,9 +6,10 @@ use desk_io::Bytes;
 pub enum HeadRule {
     /// No bytes can follow that make them a head (RFC 9112, as `httparse` reads it).
     Syntax,
-    /// They are a head that desk does not serve yet: one of version 1.0, one with a `Transfer-Encoding` or a `Connection`
-    /// field, one with two `Content-Length` fields, or one whose `Content-Length` is not one or more digits.
-    NotBuilt,
+    /// A field says how the body is sent: the name `Transfer-Encoding`, whatever its value.
+    Transfer,
+    /// There are two `Content-Length` fields, or the value of one is not one or more digits.
+    Length,
 }
 
 /// Which limit the bytes at the front reach.
@@ -36,7 +37,8 @@ pub struct Request {
     pub target: Bytes,
     /// The minor version: 1 for HTTP/1.1.
     pub version: u8,
-    /// Whether the conversation ends with the response. No head that is served yet asks for it.
+    /// Whether the conversation ends with the response: the version is 1.0, or the whole value of a `Connection` field is
+    /// `close`, whatever the case of its letters.
     pub close: bool,
     /// As many bytes as `Content-Length` says, and none without that field.
     pub body: Bytes,

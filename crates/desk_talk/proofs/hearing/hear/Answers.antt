@@ -9,7 +9,7 @@ loop-request-preserved g c =
     let wants = wants_more c.loop-request.framer _ c.next_request.new.self c.in-Ok-More.field-0-is (c.in-Ok-More.ensures.first had.fills.waits) in
     let pulled = c.in-Bytes.ensures.pulled in
     record {
-      fills = fills_more had.fills wants.1 wants.2 pulled.2;
+      fills = fills_more c.next_request.new.self had.fills wants.1 wants.2 pulled.2;
       first = λ whole. absurd (none_whole _ _ had.first wants.0 whole);
       budget = search rules;
       rising = search rules;

@@ -8,7 +8,7 @@ use Rattle.desk_wire.proofs.framing.framing_of_lengths.Goals.{then-has_name+else
 pub returns-then-is_some : goal.returns-then-is_some
 returns-then-is_some c =
     let first = some_found c.loop-header.length (sym c.if-is_some.true ∙ c.is_some.ensures) in
-    length_second c.args.buf.now c.args.headers.now c.loop-header.header-index first.0 c.loop-header-test.true (sym c.if-has_name.true ∙ c.has_name.ensures)
+    c.framing_of_two.ensures [] [] [] ∙ length_second c.args.buf.now c.args.headers.now c.loop-header.header-index first.0 c.loop-header-test.true (sym c.if-has_name.true ∙ c.has_name.ensures)
     (c.loop-header.invariant ∙ first.1)
 
 pub loop-header-preserved : goal.loop-header-preserved
@@ -16,7 +16,7 @@ loop-header-preserved c = elim c.if-has_name.branch [
   | then-has_name+else-is_some w ↦
       length_first c.args.buf.now c.args.headers.now c.loop-header.header-index c.loop-header-test.true (sym w.if-has_name.true ∙ c.has_name.ensures)
       (c.loop-header.invariant ∙ none_found c.loop-header.length (sym w.if-is_some.false ∙ w.is_some.ensures))
-      ∙ ap (λ (v : List ℕ). v ∷ []) (sym w.of.ensures) ∙ ap (λ (o : Option (Bor (List ℕ))). option_to_list (option_copied o)) (sym w.length-is)
+      ∙ ap (λ (v : List ℕ). v ∷ []) (sym w.of-value.ensures) ∙ ap (λ (o : Option (Bor (List ℕ))). option_to_list (option_copied o)) (sym w.length-is)
   | else-has_name w ↦
       length_other c.args.buf.now c.args.headers.now c.loop-header.header-index c.loop-header-test.true (sym w.if-has_name.false ∙ c.has_name.ensures)
       ∙ c.loop-header.invariant ∙ ap (λ (o : Option (Bor (List ℕ))). option_to_list (option_copied o)) (sym w.length-is)
