@@ -38,7 +38,7 @@ fn numbered<'a>(rows: &'a [CallerRow], number: u32) -> Option<&'a CallerRow>
 }
 
 /// The row of the caller, where its last change has the number of this one.
-#[tactic(auto, using(desk_load::proofs::Least::find_filter))]
+#[tactic(auto, using(crate::proofs::Finding::find_filter))]
 fn repeated<'a>(tables: &'a Tables, call: &Call) -> Option<&'a CallerRow>
     requires { IsSound tables.now }
     ensures { option_copied result ≡ find (λ x. (x.caller == call.now.caller) && (x.last == call.now.number)) tables.now.callers }

@@ -139,7 +139,7 @@ fewer b bs =
 
 -- ---- finding
 
-found_one : {A : Type 0} (p : A → Bool) (xs : List A) (x : A) → find p xs ≡ Some x → IsIn x xs × (p x ≡ true)
+pub found_one : {A : Type 0} (p : A → Bool) (xs : List A) (x : A) → find p xs ≡ Some x → IsIn x xs × (p x ≡ true)
 found_one p [] x e = cc
 found_one {A} p (y ∷ ys) x e = step (p y) refl e (found_one p ys x)
   where

@@ -1,28 +1,22 @@
 -- A group that is put: its list among those of the others.
-use Rattle.std.proofs.Common.{◌≡◌, ℕ, zero, suc, get_or, ◌<◌, ◌≤◌, Bool, true, false, cond, ◌||◌, ◌==◌, nat_lt, List, [], ◌∷◌, ◌++◌, map, drop, length, Some, None, is_some, ◌⊎◌, inl, inr, pos, refl, sym, ap, ◌∙◌, subst, arith}
+use Rattle.std.proofs.Common.{◌≡◌, ℕ, ◌<◌, ◌≤◌, Bool, true, false, ◌==◌, nat_lt, List, [], map, length, Some, None, is_some, ◌⊎◌, inl, inr, pos, refl, sym, ap, ◌∙◌, subst, arith}
 use Rattle.std.proofs.lemmas.Bool.{false≢true}
-use Rattle.std.proofs.lemmas.Bool.Decides.{nat_tests}
-use Rattle.std.proofs.lemmas.List.{map-append}
 use Rattle.std.specs.Prelude.{filter, find, Contains}
 use Rattle.std.specs.Ordering.{nat_cmp}
 use Rattle.std.specs.List.{list_any, insert}
 use Rattle.std.specs.List.Sorted.{IsStrictlySortedBy, IsPartitionPoint}
-use Rattle.std.specs.declared.cmp.Ordering.TheVariants.{Less}
 use Rattle.desk_base.specs.declared.rows.tables.Tables.{Tables}
 use Rattle.desk_base.specs.declared.rows.tables.Key.{Key}
 use Rattle.desk_base.specs.declared.rows.tables.AnyRow.TheVariants.{Group}
-use Rattle.desk_base.specs.declared.rows.tables.Table.TheVariants.{Group as GroupTable}
 use Rattle.desk_base.specs.declared.rows.groups.GroupRow.{GroupRow}
 use Rattle.desk_base.specs.declared.rows.bookings.BookingRow.{BookingRow}
-use Rattle.desk_base.specs.rows.Keys.{id_key}
 use Rattle.desk_base.specs.rows.Rows.{key_of}
 use Rattle.desk_base.specs.rows.Ranges.{owns}
 use Rattle.desk_base.specs.rules.Sound.{AreWellFormed}
 use Rattle.desk_base.specs.meaning.Load.{ask_of}
-use Rattle.desk_base.specs.changes.Changes.{is_below, rows_below, rows_above, with_row, with_one}
-use Rattle.desk_base.proofs.lists.Members.{IsIn, all_from, all_at, in_left, in_right, in-filter, in_filtered, in_from_contains, sorted-append}
-use Rattle.desk_base.proofs.lists.Filtered.{all_pass, none_pass}
-use Rattle.desk_base.proofs.lists.Cuts.{before_point}
+use Rattle.desk_base.specs.changes.Changes.{with_row, with_one}
+use Rattle.desk_base.proofs.lists.Members.{IsIn, all_at, in_from_contains}
+use Rattle.desk_base.proofs.lists.Filtered.{none_pass}
 use Rattle.desk_member.specs.Memberships.{of_member}
 use Rattle.desk_load.specs.declared.weights.Weight.{Weight}
 use Rattle.desk_load.specs.declared.lists.BookingList.{BookingList}
@@ -31,7 +25,7 @@ use Rattle.desk_load.specs.Parted.{IndexParts}
 use Rattle.desk_load.specs.Index.{AreWeightsOf, group_numbers}
 use Rattle.desk_load.specs.Lists.{lists_of}
 use Rattle.desk_load.specs.Stages.{IsStage}
-use Rattle.desk_load.proofs.Numbers.{filter_same, map_map, map_itself}
+use Rattle.desk_load.proofs.Numbers.{map_map, map_itself}
 use Rattle.desk_load.proofs.Keeping.{weight_same}
 use Rattle.desk_load.proofs.Listing.{lists_climb}
 use Rattle.desk_load.proofs.Reading.{group_named}

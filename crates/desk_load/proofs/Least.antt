@@ -14,6 +14,7 @@ use Rattle.desk_base.specs.meaning.Load.{LoadSort, plain, crew, pool, unknown, s
 use Rattle.desk_base.specs.rows.Ranges.{Rise, IsUnder, owns}
 use Rattle.desk_base.specs.rules.Sound.{AreWellFormed}
 use Rattle.desk_base.proofs.tables.Rising.{bookings_rise}
+use Rattle.desk_base.proofs.lists.Bounds.{find_within}
 use Rattle.desk_base.proofs.lists.Members.{IsIn}
 use Rattle.desk_base.proofs.lists.Tests.{list_any_from, and_right}
 use Rattle.desk_member.proofs.MemberRows.{keys_rise}
@@ -26,14 +27,6 @@ use Rattle.desk_load.proofs.Scanned.{take_more, same, equal, sum_some, some_of_t
 use Rattle.desk_load.specs.Shown.{least, counts_at, stands_on, first_of, first_on, bearing_by, bearing_on}
 
 -- ---- finding by one test or another
-
-pub find_filter : {A : Type 0} (p c : A → Bool) (xs : List A) → find c (filter p xs) ≡ find (λ x. p x && c x) xs
-find_filter p c [] = refl
-find_filter {A} p c (x ∷ xs) = step (p x) (find_filter p c xs)
-  where
-    step : (b : Bool) → find c (filter p xs) ≡ find (λ x. p x && c x) xs → find c (cond b (x ∷ filter p xs) (filter p xs)) ≡ cond (b && c x) (Some x) (find (λ x. p x && c x) xs)
-    step true h = ap (cond (c x) (Some x)) h
-    step false h = h
 
 pub find_same : {A : Type 0} (p q : A → Bool) (xs : List A) → ((x : A) → p x ≡ q x) → find p xs ≡ find q xs
 find_same p q [] h = refl
@@ -85,7 +78,7 @@ find_either p q (x ∷ xs) r = step (p x) (q x) (find_either p q xs r.1)
 module _ (v : ViewParts) (p : Place) where
   one_resource : (q : ℕ) → first_of v p (filter (owns (λ (b : BookingRow). b.resource) q) v.tables.bookings) ≡ first_on v p (q ∷ [])
   one_resource q =
-      ap (option_map (λ (b : BookingRow). b.id)) (find_filter (owns (λ (b : BookingRow). b.resource) q) (counts_at v p) v.tables.bookings ∙ find_same (λ b. (b.resource == q) && counts_at v p b) (λ b. stands_on (q ∷ []) b && counts_at v p b) v.tables.bookings (λ b. ap (λ x. x && counts_at v p b) (turned b.resource q)))
+      ap (option_map (λ (b : BookingRow). b.id)) (sym (find_within (owns (λ (b : BookingRow). b.resource) q) (counts_at v p) v.tables.bookings) ∙ find_same (λ b. (b.resource == q) && counts_at v p b) (λ b. stands_on (q ∷ []) b && counts_at v p b) v.tables.bookings (λ b. ap (λ x. x && counts_at v p b) (turned b.resource q)))
     where
       turned : (a b : ℕ) → (a == b) ≡ ((b == a) || false)
       turned a b = grind (arith, nat_tests)

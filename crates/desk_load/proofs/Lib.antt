@@ -7,7 +7,9 @@ pub mod Following
 pub mod Grouped
 pub mod Keeping
 pub mod Least
+pub mod Linked
 pub mod Listing
+pub mod Membered
 pub mod Numbers
 pub mod OneBooking
 pub mod Over
@@ -20,6 +22,7 @@ pub mod Reweighed
 pub mod Resourced
 pub mod RoomLemmas
 pub mod Scanned
+pub mod Sharing
 pub mod Standing
 pub mod StartLemmas
 pub mod Staying

@@ -33,7 +33,7 @@ BookingsRise bs = IsStrictlySortedBy key_cmp (keys_by Booking bs)
 -- ---- filters
 
 -- two of them, in either order
-filter_swap : {A : Type 0} (p q : A → Bool) (xs : List A) → filter p (filter q xs) ≡ filter q (filter p xs)
+pub filter_swap : {A : Type 0} (p q : A → Bool) (xs : List A) → filter p (filter q xs) ≡ filter q (filter p xs)
 filter_swap p q [] = refl
 filter_swap {A} p q (x ∷ xs) = step (p x) refl (q x) refl (filter_swap p q xs)
   where

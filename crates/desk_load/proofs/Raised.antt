@@ -56,12 +56,12 @@ raised_same f g xs ys e a = record { numbers = a.numbers; whole = a.whole; value
 
 -- ---- one weight in the place of another
 
-set_number : {A : Type 0} (f : A → ℕ) (xs : List A) (at : ℕ) (x d : A) → at < length xs → f (get_or xs at d) ≡ f x → map f (set xs at x) ≡ map f xs
+pub set_number : {A : Type 0} (f : A → ℕ) (xs : List A) (at : ℕ) (x d : A) → at < length xs → f (get_or xs at d) ≡ f x → map f (set xs at x) ≡ map f xs
 set_number f [] at x d l e = refl
 set_number f (y ∷ ys) zero x d l e = ap (λ n. n ∷ map f ys) (sym e)
 set_number f (y ∷ ys) (suc at) x d l e = ap (λ l. f y ∷ l) (set_number f ys at x d (omega arith) e)
 
-all_set : {A : Type 0} (P : A → Type 0) (xs : List A) (at : ℕ) (x : A) → AllByRecursion P xs → P x → AllByRecursion P (set xs at x)
+pub all_set : {A : Type 0} (P : A → Type 0) (xs : List A) (at : ℕ) (x : A) → AllByRecursion P xs → P x → AllByRecursion P (set xs at x)
 all_set P [] at x a h = tt
 all_set P (y ∷ ys) zero x a h = (h, a.1)
 all_set P (y ∷ ys) (suc at) x a h = (a.0, all_set P ys at x a.1 h)

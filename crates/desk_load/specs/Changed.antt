@@ -6,7 +6,7 @@ use Rattle.std.specs.List.Sorted.{IsStrictlySortedBy}
 use Rattle.desk_load.specs.declared.weights.Weight.{Weight}
 use Rattle.desk_load.specs.declared.lists.BookingList.{BookingList}
 use Rattle.desk_load.specs.declared.changes.opened.Former.{Former}
-use Rattle.desk_load.specs.declared.changes.opened.Former.TheVariants.{Weighed, Standing, Booked, AddedWeight, AddedStanding, AddedBooked, RemovedWeight, RemovedStanding, RemovedBooked}
+use Rattle.desk_load.specs.declared.changes.opened.Former.TheVariants.{Weighed, Standing, Booked, AddedWeight, AddedStanding, AddedBooked, RemovedWeight, RemovedStanding, RemovedBooked, Members}
 use Rattle.desk_load.specs.declared.changes.opened.OpenIndex.{OpenIndex}
 use Rattle.desk_load.specs.Parted.{IndexParts}
 
@@ -31,6 +31,7 @@ put_back i (AddedBooked at) = record i { booked = remove i.booked at }
 put_back i (RemovedWeight at w room) = record i { weights = put_among at w room i.weights }
 put_back i (RemovedStanding at l room) = record i { standing = put_among at l room i.standing }
 put_back i (RemovedBooked at l room) = record i { booked = put_among at l room i.booked }
+put_back i (Members rows) = record i { members = rows }
 
 -- the index with all of these parts again, the last first
 abbrev pub taken_back : IndexParts → List Former → IndexParts

@@ -6,6 +6,7 @@ pub mod Differing
 pub mod Effects
 pub mod Index
 pub mod Joined
+pub mod Links
 pub mod Lists
 pub mod Overs
 pub mod Parted

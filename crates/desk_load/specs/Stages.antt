@@ -5,7 +5,7 @@ use Rattle.std.specs.List.Sorted.{IsStrictlySortedBy}
 use Rattle.desk_base.specs.declared.rows.tables.Tables.{Tables}
 use Rattle.desk_base.specs.declared.rows.bookings.BookingRow.{BookingRow}
 use Rattle.desk_base.specs.declared.rows.tables.AnyRow.TheVariants.{Booking}
-use Rattle.desk_base.specs.declared.rows.tables.Table.TheVariants.{Resource as ResourceTable, Group as GroupTable, Booking as BookingTable}
+use Rattle.desk_base.specs.declared.rows.tables.Table.TheVariants.{Resource as ResourceTable, Member as MemberTable, Group as GroupTable, Booking as BookingTable}
 use Rattle.desk_base.specs.declared.rows.tables.Key.{Key}
 use Rattle.desk_base.specs.rows.Keys.{key_cmp, id_key}
 use Rattle.desk_base.specs.rows.Lookups.{keys_by}
@@ -13,7 +13,8 @@ use Rattle.desk_base.specs.rules.Limits.{effort_limit}
 use Rattle.desk_base.specs.rules.Sound.{taken_limit_of}
 use Rattle.desk_base.specs.meaning.Capacity.{resource_of}
 use Rattle.desk_load.specs.declared.changes.follow.Named.{Named}
-use Rattle.desk_load.specs.declared.changes.follow.Named.TheVariants.{Booking as NamedBooking, Group as NamedGroup, Resource as NamedResource}
+use Rattle.desk_load.specs.declared.changes.follow.Named.TheVariants.{Booking as NamedBooking, Group as NamedGroup, Resource as NamedResource, Member as NamedMember}
+use Rattle.desk_load.specs.declared.changes.memberships.MemberKey.{MemberKey}
 use Rattle.desk_load.specs.declared.changes.follow.Phase.{Phase}
 use Rattle.desk_load.specs.declared.changes.follow.Phase.TheVariants.{Open, Closed}
 use Rattle.desk_load.specs.Parted.{IndexParts}
@@ -42,11 +43,16 @@ pub record IsStage (t s : Tables) (next more : ℕ) (i : IndexParts) : Type 0 wh
   pub index : IsIndexOf s i
   pub order : IsOrdered i
 
+-- the key of a membership
+abbrev pub key_of_member : MemberKey → Key
+key_of_member k = record { table = MemberTable; a = k.group; b = k.member; c = k.from }
+
 -- the key under which it stands
 abbrev pub key_of_named : Named → Key
 key_of_named (NamedBooking id) = id_key BookingTable id
 key_of_named (NamedGroup number) = id_key GroupTable number
 key_of_named (NamedResource number) = id_key ResourceTable number
+key_of_named (NamedMember k) = key_of_member k
 
 -- how far a change was followed: bookings may be put from a number on, or the index is one of the tables, and only rows that are not indexed may follow
 abbrev pub IsPhase : Tables → Tables → Phase → ℕ → IndexParts → Type 0

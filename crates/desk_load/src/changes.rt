@@ -1,13 +1,16 @@
 //! Changes of an index in two steps: the first takes all the memory that they need, the second takes none.
 //!
-//! A change of bookings, of groups or of a resource is followed: only the weights and lists that it touches are made anew, and
-//! stand in the places of the former ones, which are kept until it is settled, as are those that go. So is a change without
-//! indexed rows, which touches nothing. For a change of memberships, and for one that changes the kind of a resource, the index
-//! is built anew.
+//! A change of bookings, of groups, of a resource or of a membership is followed: only the weights and lists that it touches are
+//! made anew, and stand in the places of the former ones, which are kept until it is settled, as are those that go. So is a
+//! change without indexed rows, which touches nothing. For a change of several resources or memberships, and for one that changes
+//! the kind of a resource, the index is built anew.
 mod follow;
 mod groups;
+mod links;
+mod memberships;
 mod opened;
 mod resources;
+mod shared;
 mod spare;
 mod turns;
 

@@ -16,7 +16,7 @@ pub mod probe;
 mod rooms;
 mod scans;
 mod shown;
-mod sorts;
+pub(crate) mod sorts;
 pub mod starts;
 mod steady;
 mod uses;

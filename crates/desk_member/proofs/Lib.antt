@@ -1,4 +1,5 @@
 pub mod ByMembers
+pub mod Placing
 pub mod SumLemmas
 pub mod MemberRows
 pub mod Shares

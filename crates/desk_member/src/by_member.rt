@@ -1,6 +1,9 @@
 //! Memberships by member.
-ghost use Rattle.std.specs.Prelude.{◌≡◌, [], IfOk};
-ghost use Rattle.desk_member.specs.Memberships.{AreMemberships, of_member};
+ghost use Rattle.std.specs.Prelude.{◌≡◌, ℕ, ◌==◌, [], ◌∷◌, ◌++◌, false, filter, IfOk};
+ghost use Rattle.desk_base.specs.declared.rows.tables.AnyRow.TheVariants.{Member};
+ghost use Rattle.desk_base.specs.rows.Rows.{key_of};
+ghost use Rattle.desk_base.specs.changes.Changes.{with_one, without_one};
+ghost use Rattle.desk_member.specs.Memberships.{AreMemberships, of_member, comes_before};
 
 use desk_base::{MemberRow, NoMemory, ResourceId, Tables};
 use std::alloc::Global;
@@ -22,6 +25,40 @@ impl Model for ByMember {
     ghost view = { λ b. b.rows.items };
 
     ghost invariant = { λ b. Rise (λ x. x.member) (λ x. 0) b.rows.items };
+}
+
+/// Whether a membership stands before another.
+fn comes_before(a: &MemberRow, b: &MemberRow) -> bool
+    ensures { result ≡ comes_before a.now b.now }
+{
+    a.member.get() < b.member.get()
+        || (a.member.get() == b.member.get()
+            && (a.group.get() < b.group.get()
+                || (a.group.get() == b.group.get() && a.from.get() < b.from.get())))
+}
+
+/// The memberships that stand before this one.
+fn lower(alloc: Global, rows: &[MemberRow], row: &MemberRow) -> Result<Vec<MemberRow>, NoMemory>
+    ensures { IfOk result (λ v. v.items ≡ filter (λ y. comes_before y row.now) rows.now) }
+{
+    Ok(
+        rows.iter()
+            .filter(|y| comes_before(y, row))
+            .map(|y| *y)
+            .collect(alloc)?,
+    )
+}
+
+/// The memberships before which this one stands.
+fn upper(alloc: Global, rows: &[MemberRow], row: &MemberRow) -> Result<Vec<MemberRow>, NoMemory>
+    ensures { IfOk result (λ v. v.items ≡ filter (λ y. comes_before row.now y) rows.now) }
+{
+    Ok(
+        rows.iter()
+            .filter(|y| comes_before(row, y))
+            .map(|y| *y)
+            .collect(alloc)?,
+    )
 }
 
 impl ByMember {
@@ -52,5 +89,30 @@ impl ByMember {
         let rest = &self.rows[first..];
         let count = rest.partition_point(|row| row.member.get() == member);
         &rest[..count]
+    }
+
+    /// The memberships with one more, in the place of the one of its crew or pool, member and first minute, if that stands.
+    pub fn with(&self, alloc: Global, row: &MemberRow) -> Result<ByMember, NoMemory>
+        ensures own { IfOk result (λ b. of_member row.now.member b ≡ with_one (λ y. key_of (Member y)) row.now (of_member row.now.member self.now)) }
+        ensures others { IfOk result (λ b. (r : ℕ) → (row.now.member == r) ≡ false → of_member r b ≡ of_member r self.now) }
+    {
+        let mut rows = lower(alloc, self.rows.as_slice(), row)?;
+        let Ok(()) = rows.push(*row) else {
+            return Err(NoMemory);
+        };
+        let above = upper(alloc, self.rows.as_slice(), row)?;
+        rows.extend_from_slice(above.as_slice())?;
+        Ok(ByMember { rows })
+    }
+
+    /// The memberships without the one of this crew or pool, member and first minute.
+    pub fn without(&self, alloc: Global, row: &MemberRow) -> Result<ByMember, NoMemory>
+        ensures own { IfOk result (λ b. of_member row.now.member b ≡ without_one (λ y. key_of (Member y)) (key_of (Member row.now)) (of_member row.now.member self.now)) }
+        ensures others { IfOk result (λ b. (r : ℕ) → (row.now.member == r) ≡ false → of_member r b ≡ of_member r self.now) }
+    {
+        let mut rows = lower(alloc, self.rows.as_slice(), row)?;
+        let above = upper(alloc, self.rows.as_slice(), row)?;
+        rows.extend_from_slice(above.as_slice())?;
+        Ok(ByMember { rows })
     }
 }

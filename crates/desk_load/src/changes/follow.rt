@@ -1,5 +1,5 @@
 //! Changes that an index follows row by row: bookings that are taken out and put, groups that are put before them, and at last a
-//! group that is taken out, or a resource that is put or taken out. Nothing else of it is touched.
+//! group that is taken out, or a resource or a membership that is put or taken out. Nothing else of it is touched.
 ghost use Rattle.std.specs.Prelude.{◌≡◌, ◌==◌, ℕ, suc, true, ◌≤◌, length, find, IfOk, OnOk, IfSome};
 ghost use Rattle.std.specs.Option.{option_copied};
 ghost use Rattle.desk_base.specs.declared.rows.tables.Tables.{Tables};
@@ -13,6 +13,7 @@ ghost use Rattle.desk_load.specs.Index.{IsIndexOf};
 ghost use Rattle.desk_load.specs.Changed.{IsOrdered, parts_of, before_of};
 ghost use Rattle.desk_load.specs.Stages.{IsUsable, IsStage, IsPhase, key_of_named};
 
+use crate::changes::memberships::MemberKey;
 use crate::changes::opened::OpenIndex;
 use crate::changes::turns::Turn;
 use crate::effects::is_indexed;
@@ -26,8 +27,9 @@ use std::alloc::Global;
 pub(crate) enum Stop {
     /// Memory was not found.
     NoMemory,
-    /// It changes memberships or what a resource is, takes out a resource on which something stands, puts bookings in another
-    /// order than that of their numbers, or changes something behind a row that must be the last.
+    /// It changes what a resource is, takes out a resource on which something stands, puts bookings in another order than that of
+    /// their numbers, or changes something behind a row that must be the last: a group that is taken out, a resource or a
+    /// membership. So of two resources or two memberships in one change the second is not followed; no act of the desk has two.
     Unfollowed,
 }
 
@@ -40,18 +42,26 @@ pub(crate) enum Phase {
     Closed,
 }
 
-/// A booking, a group or a resource that may stand under a key.
+/// A booking, a group, a resource or a membership that may stand under a key.
 #[derive(Clone, Copy)]
 enum Named {
     Booking(BookingId),
     Group(u32),
     Resource(u32),
+    Member(MemberKey),
 }
 
-/// What may stand under a key of one number; `None` for the key of another table, and where nothing may.
+/// What may stand under a key; `None` for the key of another table, and where nothing may.
 fn named_by(key: &Key) -> Option<Named>
     ensures { IfSome result (λ n. key.now ≡ key_of_named n) }
 {
+    if let Table::Member = key.table {
+        return Some(Named::Member(MemberKey {
+            group: key.a,
+            member: key.b,
+            from: key.c,
+        }));
+    }
     if key.b != 0 || key.c != 0 {
         return None;
     }
@@ -134,7 +144,7 @@ impl OpenIndex {
         Ok(())
     }
 
-    /// Takes a booking, a group or a resource out, where it stands.
+    /// Takes a booking, a group, a resource or a membership out, where it stands.
     fn take_out_named(
         &mut self,
         alloc: Global,
@@ -159,10 +169,14 @@ impl OpenIndex {
                 self.take_out_resource(alloc, tables, number)?;
                 Ok(Phase::Closed)
             }
+            Named::Member(key) => {
+                self.take_out_member(alloc, tables, key)?;
+                Ok(Phase::Closed)
+            }
         }
     }
 
-    /// Takes the row of a key out, where that is a booking, a group, a resource or not indexed.
+    /// Takes the row of a key out, where that is a booking, a group, a resource, a membership or not indexed.
     fn take_out_key(
         &mut self,
         alloc: Global,
@@ -187,7 +201,7 @@ impl OpenIndex {
         self.take_out_named(alloc, tables, named)
     }
 
-    /// Puts a row that is a group, a resource, a booking, or not indexed.
+    /// Puts a row that is a group, a resource, a membership, a booking, or not indexed.
     #[tactic(auto, using(crate::proofs::Numbers::keys_climb))]
     fn put_open(
         &mut self,
@@ -225,6 +239,13 @@ impl OpenIndex {
                     return Err(Stop::Unfollowed);
                 }
                 self.put_resource(alloc, tables, resource)?;
+                Ok(Phase::Closed)
+            }
+            AnyRow::Member(member) => {
+                if next != 0 {
+                    return Err(Stop::Unfollowed);
+                }
+                self.put_member(alloc, tables, member)?;
                 Ok(Phase::Closed)
             }
             _ => {
@@ -303,7 +324,7 @@ impl OpenIndex {
     }
 
     /// Follows a change whose indexed rows are bookings, put in the order of their numbers, groups that are put before them, and at
-    /// last a group that is taken out, or a resource.
+    /// last a group that is taken out, a resource or a membership.
     pub(crate) fn follow(
         &mut self,
         alloc: Global,

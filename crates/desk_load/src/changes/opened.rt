@@ -2,7 +2,7 @@
 //! index can be had as it was.
 ghost use Rattle.std.specs.Prelude.{◌≡◌, ◌<◌, ◌≤◌, length, OnOk, IfSome};
 ghost use Rattle.std.specs.List.{HoldsAt, insert, remove};
-ghost use Rattle.desk_load.specs.declared.changes.opened.Former.TheVariants.{Weighed, Standing, Booked, AddedBooked};
+ghost use Rattle.desk_load.specs.declared.changes.opened.Former.TheVariants.{Weighed, Standing, Booked, AddedBooked, Members};
 ghost use Rattle.desk_load.specs.Changed.{IsOrdered, put_among, put_back, taken_back, parts_of, before_of};
 
 use crate::changes::spare::Spare;
@@ -28,6 +28,8 @@ pub(crate) enum Former {
     RemovedWeight(usize, Weight, Spare<Weight>),
     RemovedStanding(usize, BookingList, Spare<BookingList>),
     RemovedBooked(usize, BookingList, Spare<BookingList>),
+    /// All memberships, which are few: others stand in their place.
+    Members(ByMember),
 }
 
 /// The parts of an index, and those that were replaced, in the order in which they were.
@@ -116,6 +118,17 @@ impl OpenIndex {
         self.formers.reserve(1)?;
         let former = mem::replace(&mut self.booked[at], list);
         self.formers.push_reserved(Former::Booked(at, former));
+        Ok(())
+    }
+
+    /// Puts other memberships in the place of these.
+    pub(crate) fn put_members(&mut self, members: ByMember) -> Result<(), NoMemory>
+        ensures parts { OnOk result (parts_of self.new ≡ put_back (parts_of self.old) (Members members)) }
+        ensures before { before_of self.new ≡ before_of self.old }
+    {
+        self.formers.reserve(1)?;
+        let former = mem::replace(&mut self.members, members);
+        self.formers.push_reserved(Former::Members(former));
         Ok(())
     }
 
@@ -247,6 +260,9 @@ impl OpenIndex {
             }
             Former::RemovedBooked(at, list, spare) => {
                 put_among(&mut self.booked, at, list, spare);
+            }
+            Former::Members(members) => {
+                self.members = members;
             }
         }
     }

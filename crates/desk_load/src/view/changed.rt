@@ -137,7 +137,6 @@ pub fn clash_changed(
 ) -> Result<Option<Clash>, NoMemory>
     requires well_formed { AreWellFormed tables.now }
     requires index { IsIndexOf tables.now index.now }
-    requires before_formed { AreWellFormed before.value }
     requires fits { Fits before.value (map ask_of before.value.bookings) }
     requires changed { DiffersAt before.value tables.now key.now }
     ensures { IfOk result (λ c. MatchOption c (Fits tables.now (map ask_of tables.now.bookings)) (λ c. IsConflict tables.now tables.now.bookings [] c)) }

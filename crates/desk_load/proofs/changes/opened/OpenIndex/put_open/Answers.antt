@@ -45,3 +45,12 @@ returns-in_ok-put_resource-in-Resource-clause-put c s more h =
       subst (λ row. IsIndexOf (with_row s row) (parts_of c.put_resource.new.self)) (sym c.in-Resource.is) (a.index s (suc more) (subst (λ n. IsStage c.args.tables.now s n (suc more) (parts_of c.args.self.now)) e h)),
       a.order,
     )
+
+pub returns-in_ok-put_member-in-Member-clause-put : goal.returns-in_ok-put_member-in-Member-clause-put
+returns-in_ok-put_member-in-Member-clause-put c s more h =
+    let z = c.if-next-ne0-3.false in
+    let e : ◌≡◌ {A = ℕ} c.args.next 0 = omega (arith, z) in
+    let a = c.in_ok-put_member-in-Member.ensures in (
+      subst (λ row. IsIndexOf (with_row s row) (parts_of c.put_member.new.self)) (sym c.in-Member.is) (a.index s (suc more) (subst (λ n. IsStage c.args.tables.now s n (suc more) (parts_of c.args.self.now)) e h)),
+      a.order,
+    )

@@ -13,3 +13,8 @@ pub returns-in_ok-take_out_resource-in-Resource-clause-out : goal.returns-in_ok-
 returns-in_ok-take_out_resource-in-Resource-clause-out c s more h =
     let a = c.in_ok-take_out_resource-in-Resource.ensures in
     (subst (λ n. IsIndexOf (without_key s (key_of_named n)) (parts_of c.take_out_resource.new.self)) (sym c.in-Resource.is) (a.index s more h), a.order)
+
+pub returns-in_ok-take_out_member-in-Member-clause-out : goal.returns-in_ok-take_out_member-in-Member-clause-out
+returns-in_ok-take_out_member-in-Member-clause-out c s more h =
+    let a = c.in_ok-take_out_member-in-Member.ensures in
+    (subst (λ n. IsIndexOf (without_key s (key_of_named n)) (parts_of c.take_out_member.new.self)) (sym c.in-Member.is) (a.index s more h), a.order)

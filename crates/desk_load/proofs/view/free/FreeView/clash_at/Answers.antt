@@ -8,7 +8,7 @@ use Rattle.desk_base.specs.meaning.Time.{IsMinute}
 use Rattle.desk_base.specs.meaning.Load.{weight, room, ask_of, counts, IsWithinRoom}
 use Rattle.desk_load.specs.Views.{is_own, other_asks}
 use Rattle.desk_load.proofs.Weighed.{weight-append}
-use Rattle.desk_load.proofs.Least.{find_filter}
+use Rattle.desk_base.proofs.lists.Bounds.{find_within}
 use Rattle.desk_load.proofs.view.free.FreeView.clash_at.Goals as goal
 
 pub room_at-requires-clause-bounded : goal.room_at-requires-clause-bounded
@@ -39,7 +39,7 @@ returns c =
       };
       standing_weight = c.weight_of_others.ensures ∙ ap (weight t others r) (sym e);
       asked_weight = c.weight_at.ensures ∙ ap (weight t asks r) (sym e);
-      shown = c.shown_of.ensures ∙ ap (λ n. option_map_or Booking n Gap) (c.first_at.ensures ∙ ap (option_map (λ (b : BookingRow). b.id)) (sym (find_filter (λ b. not (is_own v.without b)) (λ b. counts t r p.minute (ask_of b)) t.bookings)) ∙ ap (λ m. option_map (λ (b : BookingRow). b.id) (find (λ b. counts t r m (ask_of b)) (filter (λ b. not (is_own v.without b)) t.bookings))) (sym e));
+      shown = c.shown_of.ensures ∙ ap (λ n. option_map_or Booking n Gap) (c.first_at.ensures ∙ ap (option_map (λ (b : BookingRow). b.id)) (find_within (λ b. not (is_own v.without b)) (λ b. counts t r p.minute (ask_of b)) t.bookings) ∙ ap (λ m. option_map (λ (b : BookingRow). b.id) (find (λ b. counts t r m (ask_of b)) (filter (λ b. not (is_own v.without b)) t.bookings))) (sym e));
     }
   where
     above : (n w s : ℕ) → (w ≤ n → ⊥) → w ≡ s → n < s
