@@ -1,13 +1,7 @@
--- Queries and targets as texts.
-mod PieceLemmas
-mod PagingLemmas
-mod TargetLemmas
-mod ReadingLemmas
+-- Commands that requests ask for, and statuses.
 mod Served
-mod TurnLemmas
--- Conversations.
-pub mod CarriedTurns
 mod Statuses
+-- Conversations.
 pub mod StoreSound
 pub mod Revisions
 pub mod ShownLemmas

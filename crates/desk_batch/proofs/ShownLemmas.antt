@@ -39,12 +39,12 @@ use Rattle.desk_base.proofs.lists.Tests.{find_cases, and_left, and_right}
 use Rattle.desk_core.specs.Books.{BookState}
 use Rattle.desk_wire.specs.declared.rules.Request.{Request}
 use Rattle.desk_wire.specs.declared.responses.Response.{Response}
-use Rattle.desk_batch.specs.declared.requests.Routed.{Routed}
-use Rattle.desk_batch.specs.declared.requests.Routed.TheVariants.{Command, Refused}
+use Rattle.desk_route.specs.declared.requests.Routed.{Routed}
+use Rattle.desk_route.specs.declared.requests.Routed.TheVariants.{Command, Refused}
 use Rattle.desk_batch.specs.declared.words.Store.{Store}
-use Rattle.desk_batch.specs.Exchanges.{Exchanged, TurnOf}
+use Rattle.desk_route.specs.Exchanges.{Exchanged, TurnOf}
 use Rattle.desk_batch.specs.Shown.{Taken, Told, Search, exchange_of, IsTold, AreTold, HasStood, ShowsPage, ShowsTo, ShowPages, ArePassing}
-use Rattle.desk_batch.specs.Requesting.{Reads}
+use Rattle.desk_route.specs.Requesting.{Reads}
 use Rattle.desk_batch.specs.Runs.{JoinsPages}
 use Rattle.desk_talk.specs.Sessions.{Exchange, Turns}
 use Rattle.desk_batch.specs.Turns.{opened_over, OwnTurn}

@@ -7,7 +7,7 @@ use Rattle.desk_core.specs.Books.{BookState}
 use Rattle.desk_talk.specs.Sessions.{Exchange, Session}
 use Rattle.desk_talk.specs.declared.ends.SessionEnd.{SessionEnd}
 use Rattle.desk_talk.specs.declared.ends.SessionEnd.TheVariants as end
-use Rattle.desk_batch.specs.Exchanges.{Exchanged, IsStopped}
+use Rattle.desk_route.specs.Exchanges.{Exchanged, IsStopped}
 use Rattle.desk_batch.specs.Shown.{Told, exchange_of, AreTold, PagesJoin}
 use Rattle.desk_batch.specs.Turns.{opened_over, OwnTurn, NeverSpent}
 use Rattle.desk_batch.specs.Words.{usage_line}
@@ -17,7 +17,7 @@ abbrev pub status_of : SessionEnd → ℕ
 status_of end.Closed = 0
 status_of end.Truncated = 3
 status_of (end.BadHead rule) = 4
-status_of (end.TooLarge limit) = 4
+status_of (end.TooLarge limit) = 5
 status_of end.ReadFault = 6
 status_of end.WriteFault = 7
 status_of end.BudgetEnd = 5

@@ -19,11 +19,11 @@ use Rattle.desk_base.specs.asked.Steps.{point_of}
 use Rattle.desk_core.specs.Books.{BookState}
 use Rattle.desk_wire.specs.declared.rules.Request.{Request}
 use Rattle.desk_wire.specs.declared.responses.Response.{Response}
-use Rattle.desk_batch.specs.declared.requests.Routed.TheVariants.{Command, Refused}
-use Rattle.desk_batch.specs.declared.requests.WebRefusal.{WebRefusal}
+use Rattle.desk_route.specs.declared.requests.Routed.TheVariants.{Command, Refused}
+use Rattle.desk_route.specs.declared.refusals.WebRefusal.{WebRefusal}
 use Rattle.desk_json.specs.AnsweredPages.{ShowsPlaces, IsAnswered}
-use Rattle.desk_batch.specs.Requesting.{Reads}
-use Rattle.desk_batch.specs.Replies.{answer_response, refusal_response}
+use Rattle.desk_route.specs.Requesting.{Reads}
+use Rattle.desk_route.specs.Replies.{answer_response, refusal_response}
 use Rattle.desk_talk.specs.Sessions.{Exchange}
 use Rattle.desk_batch.specs.Turns.{OwnTurn}
 

@@ -1,9 +1,14 @@
 -- The words that a program is started with.
-use Rattle.std.specs.Prelude.{◌≡◌, ℕ, List, [], ◌∷◌, codes}
+use Rattle.std.specs.Prelude.{◌≡◌, ℕ, List, [], ◌∷◌, codes, Option, Some, None}
 use Rattle.desk_base.specs.declared.rows.tables.Tables.{Tables}
 use Rattle.desk_base.specs.rows.Trial.{no_rows, trial}
 use Rattle.desk_batch.specs.declared.words.Store.{Store}
 use Rattle.desk_batch.specs.declared.words.Store.TheVariants.{Trial, Empty}
+
+-- a value of which this holds, or none where it holds of none
+abbrev pub Finds : {A : Type 0} → (A → Type 0) → Option A → Type 0
+Finds Holds (Some x) = Holds x
+Finds {A} Holds None = (x : A) → ¬ (Holds x)
 
 -- the words that serve a store
 abbrev pub words_for : Store → List (List ℕ)

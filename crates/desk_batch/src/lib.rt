@@ -1,16 +1,10 @@
 //! `desk batch`: one connection, served alone, from the bytes of a source to the bytes of a sink.
 //!
-//! `run` is the top call. Below it stand public modules: `requests` reads what is asked, `turns` takes it to the book, and `replies`
-//! writes the answer. The conversation itself is held by `desk_talk`.
+//! `run` is the top call. `desk_route` reads each request and writes each response, `turns` takes commands to the book, and the
+//! conversation itself is held by `desk_talk`.
 #![tactic(auto)]
 
-mod bodies;
-mod journals;
-pub mod laws;
-mod paging;
 mod program;
-pub mod replies;
-pub mod requests;
 pub mod turns;
 mod words;
 

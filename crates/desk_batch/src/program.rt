@@ -3,18 +3,19 @@ ghost use Rattle.std.specs.Prelude.{◌≡◌, ◌⊎◌, ◌<◌, ◌≤◌, �
 ghost use Rattle.desk_io.specs.Counts.{Rose};
 ghost use Rattle.desk_wire.specs.Requests.{Requests, clean};
 ghost use Rattle.desk_wire.specs.declared.rules.Request.{Request};
-ghost use Rattle.desk_batch.specs.Exchanges.{Exchanged, IsStopped};
+ghost use Rattle.desk_route.specs.Exchanges.{Exchanged, IsStopped};
 ghost use Rattle.desk_base.specs.rules.Sound.{IsSound};
 ghost use Rattle.desk_batch.specs.Runs.{status_of, HoldsOver, JoinsPages, SendsUsage};
 ghost use Rattle.desk_talk.specs.Sessions.{Session};
 ghost use Rattle.desk_batch.specs.Turns.{opened_over, OwnTurn, NeverSpent};
 ghost use Rattle.desk_batch.specs.Words.{words_for, tables_of, IsCommand};
 
-use crate::turns::{Alone, Serving};
+use crate::turns::Alone;
 use crate::words::{Store, Word, store_of, usage};
 use desk_base::{NoMemory, Tables};
 use desk_core::Book;
 use desk_io::{Sink, Source};
+use desk_route::{Routes, Serving};
 use desk_talk::{SessionEnd, converse};
 use std::alloc::Global;
 
@@ -26,7 +27,7 @@ fn status(end: SessionEnd) -> u8
         SessionEnd::Closed => 0,
         SessionEnd::Truncated => 3,
         SessionEnd::BadHead(_) => 4,
-        SessionEnd::TooLarge(_) => 4,
+        SessionEnd::TooLarge(_) => 5,
         SessionEnd::ReadFault => 6,
         SessionEnd::WriteFault => 7,
         SessionEnd::BudgetEnd => 5,
@@ -57,13 +58,14 @@ fn tables_of(alloc: Global, store: Store) -> Result<Tables, NoMemory>
     }
 }
 
-/// Opens a book over a store.
-fn open(alloc: Global, store: Store) -> Result<Book, NoMemory>
-    ensures { IfOk result (λ book. book ≡ opened_over (tables_of store)) }
+/// Opens a book over a store, and makes the routes.
+fn open(alloc: Global, store: Store) -> Result<(Routes, Book), NoMemory>
+    ensures { IfOk result (λ made. made.1 ≡ opened_over (tables_of store)) }
 {
+    let routes = Routes::new(alloc)?;
     let tables = tables_of(alloc, store)?;
     match Book::over(alloc, tables) {
-        Ok(book) => Ok(book),
+        Ok(book) => Ok((routes, book)),
         Err(_tables) => Err(NoMemory),
     }
 }
@@ -73,6 +75,7 @@ fn serve<S: Source, W: Sink>(
     alloc: Global,
     source: &mut S,
     sink: &mut W,
+    routes: Routes,
     book: Book,
 ) -> (Book, SessionEnd)
     requires opened { book ≡ opened_over book.opened }
@@ -85,9 +88,10 @@ fn serve<S: Source, W: Sink>(
 {
     let engine = Serving {
         taker: Alone { book },
+        routes,
     };
     let (engine, end) = converse(alloc, source, sink, engine);
-    let Serving { taker } = engine;
+    let Serving { taker, routes: _ } = engine;
     let Alone { book } = taker;
     (book, end)
 }
@@ -103,10 +107,10 @@ fn batch<S: Source, W: Sink>(alloc: Global, store: Store, source: &mut S, sink: 
         → ¬ (Rose (S.fault_count source.old) (S.fault_count source.new)) → ¬ (Rose (W.fault_count sink.old) (W.fault_count sink.new))
         → (result ≡ 0) ⊎ (result ≡ 10) }
 {
-    let Ok(book) = open(alloc, store) else {
+    let Ok((routes, book)) = open(alloc, store) else {
         return 10;
     };
-    let (book, end) = serve(alloc, source, sink, book);
+    let (book, end) = serve(alloc, source, sink, routes, book);
     let _ = book;
     status(end)
 }

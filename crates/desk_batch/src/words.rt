@@ -1,7 +1,6 @@
 //! The words that a program is started with.
 ghost use Rattle.std.specs.Prelude.{◌≡◌, ◌↔◌, [], ◌∷◌, codes, IsTrue};
-ghost use Rattle.desk_batch.specs.RequestReading.{Finds};
-ghost use Rattle.desk_batch.specs.Words.{words_for, usage_line};
+ghost use Rattle.desk_batch.specs.Words.{Finds, words_for, usage_line};
 
 use desk_io::Bytes;
 

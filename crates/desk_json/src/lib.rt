@@ -32,3 +32,4 @@ pub use cursors::cursor_text;
 pub use decimals::{read_id, read_number};
 pub use faults::{BodyError, BodyRule};
 pub use pieces::pieces_of;
+pub use words::field_name;

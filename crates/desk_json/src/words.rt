@@ -32,8 +32,8 @@ pub(crate) fn table_name(table: Table) -> &'static str
     }
 }
 
-/// The name of a field.
-pub(crate) fn field_name(field: Field) -> &'static str
+/// The name of a field, as it stands in bodies and in answers.
+pub fn field_name(field: Field) -> &'static str
     ensures { result.now ≡ field_name field }
 {
     match field {

@@ -1,6 +1,6 @@
 //! Bodies that are long, cut short, dropped, or ask for nothing.
-use crate::ends::CLOSED;
-use crate::runs::{NOT_BUILT, OK, TRIAL, gives, holds, request, response};
+use crate::ends::closing;
+use crate::runs::{OK, TRIAL, gives, holds, request, response};
 use std::alloc::Global;
 use std::test::Fail;
 
@@ -29,7 +29,20 @@ fn bodies_have_a_limit(rt: HostRuntime) -> Result<(), Fail> {
     )?;
     let more = padded(alloc, 65_479)?;
     let input = request(alloc, "POST /changes", more.as_str())?;
-    gives(&rt, alloc, TRIAL, input.as_bytes(), 4096, 4, CLOSED)
+    let output = closing(
+        alloc,
+        "413 Content Too Large",
+        "{\"error\":\"too_large\",\"limit\":\"body\"}",
+    )?;
+    gives(
+        &rt,
+        alloc,
+        TRIAL,
+        input.as_bytes(),
+        4096,
+        5,
+        output.as_bytes(),
+    )
 }
 
 #[test]
@@ -59,15 +72,15 @@ fn a_change_that_is_cut_at_every_byte(rt: HostRuntime) -> Result<(), Fail> {
 }
 
 #[test]
-fn bodies_that_ask_for_nothing(rt: HostRuntime) -> Result<(), Fail> {
-    let (not_built, no_body) = NOT_BUILT;
+fn a_body_of_a_get_is_dropped(rt: HostRuntime) -> Result<(), Fail> {
     let exchanges = [
         ("GET /revision", "dropped", OK, "{\"revision\":0}"),
-        ("POST /changes", "no JSON", not_built, no_body),
-        ("POST /changes", "", not_built, no_body),
-        ("POST /changes?", UNIT_2, not_built, no_body),
-        ("GET /changes", UNIT_2, not_built, no_body),
-        ("POST /revision", UNIT_2, not_built, no_body),
+        (
+            "GET /journal",
+            UNIT_2,
+            OK,
+            "{\"entries\":[],\"revision\":0}",
+        ),
         ("GET /revision", "", OK, "{\"revision\":0}"),
     ];
     holds(&rt, rt.alloc(), TRIAL, &exchanges)

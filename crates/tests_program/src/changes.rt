@@ -1,5 +1,5 @@
 //! Changes of a schedule over one connection, and what is answered.
-use crate::runs::{EMPTY, Exchange, NOT_BUILT, OK, TRIAL, holds};
+use crate::runs::{EMPTY, Exchange, OK, TRIAL, holds};
 use std::test::Fail;
 
 const POST: &str = "POST /changes";
@@ -176,7 +176,7 @@ const UNIT_3: &str = "{\"act\":\"put_unit\",\"caller\":7,\"number\":2,\"id\":3,\
 const SECOND_FOUR_AT_2: &str =
     "{\"end\":false,\"next\":\"2.28936020.1\",\"revision\":2,\"rows\":[[\"2025-01-06T10:00Z\",1],[\"2025-01-06T10:00Z\",2],[\"2025-01-06T10:00Z\",3],[\"2025-01-06T11:00Z\",1]]}";
 
-const OLD_CURSORS: [Exchange<'static>; 6] = [
+const OLD_CURSORS: [Exchange<'static>; 7] = [
     (POST, UNIT_2, OK, PUT_AT_1),
     (POST, UNIT_3, OK, PUT_AT_2),
     (
@@ -202,6 +202,12 @@ const OLD_CURSORS: [Exchange<'static>; 6] = [
         "",
         OK,
         SECOND_FOUR_AT_2,
+    ),
+    (
+        "GET /groups/1/rows?after=2.028935900.3",
+        "",
+        "400 Bad Request",
+        "{\"error\":\"bad_cursor\"}",
     ),
 ];
 
@@ -335,25 +341,6 @@ const JOURNAL: [Exchange<'static>; 7] = [
         "{\"entries\":[],\"revision\":2}",
     ),
 ];
-
-#[test]
-fn targets_near_the_journal_are_not_built(rt: HostRuntime) -> Result<(), Fail> {
-    let exchanges = [
-        ("GET /journal?from=01", "", NOT_BUILT.0, NOT_BUILT.1),
-        (
-            "GET /journal?from=1000000000000001",
-            "",
-            NOT_BUILT.0,
-            NOT_BUILT.1,
-        ),
-        ("GET /journal?", "", NOT_BUILT.0, NOT_BUILT.1),
-        ("GET /journal?from=", "", NOT_BUILT.0, NOT_BUILT.1),
-        ("GET /journal?from=+1", "", NOT_BUILT.0, NOT_BUILT.1),
-        ("GET /journal?from=1&from=1", "", NOT_BUILT.0, NOT_BUILT.1),
-        ("POST /journal", "", NOT_BUILT.0, NOT_BUILT.1),
-    ];
-    holds(&rt, rt.alloc(), TRIAL, &exchanges)
-}
 
 #[test]
 fn changes_of_the_trial_tables(rt: HostRuntime) -> Result<(), Fail> {

@@ -3,6 +3,8 @@
 #![tactic(auto)]
 
 #[cfg(test)]
+mod acts;
+#[cfg(test)]
 mod bodies;
 #[cfg(test)]
 mod changes;
@@ -11,6 +13,12 @@ mod clients;
 #[cfg(test)]
 mod ends;
 #[cfg(test)]
+mod errors;
+#[cfg(test)]
+mod heads;
+#[cfg(test)]
 mod pages;
 #[cfg(test)]
 mod runs;
+#[cfg(test)]
+mod trees;

@@ -37,7 +37,7 @@ pub type Exchange<'a> = (&'a str, &'a str, &'a str, &'a str);
 /// The status of what was done.
 pub const OK: &str = "200 OK";
 
-/// What is answered where nothing is built.
+/// What is answered on the board and on the sheets, which are not built.
 pub const NOT_BUILT: (&str, &str) = ("501 Not Implemented", "{\"error\":\"not_built\"}");
 
 /// A request with a body, or without one where it is empty.
@@ -54,6 +54,14 @@ pub fn response(alloc: Global, status: &str, body: &str) -> Result<String, Fail>
     let length = body.len();
     Ok(format!(in alloc;
         "HTTP/1.1 {status}\r\ncontent-type: application/json\r\ncontent-length: {length}\r\n\r\n{body}"
+    )?)
+}
+
+/// The same with a line more at the end of its head.
+pub fn response_with(alloc: Global, status: &str, line: &str, body: &str) -> Result<String, Fail> {
+    let length = body.len();
+    Ok(format!(in alloc;
+        "HTTP/1.1 {status}\r\ncontent-type: application/json\r\ncontent-length: {length}\r\n{line}\r\n{body}"
     )?)
 }
 
@@ -142,9 +150,8 @@ fn the_trial_listing(rt: HostRuntime) -> Result<(), Fail> {
     gives(&rt, alloc, TRIAL, ROWS, 4096, 0, LISTING)?;
     gives(&rt, alloc, TRIAL, b"", 4096, 0, b"")?;
     let exchanges = [
-        ("GET /nothing", "", NOT_BUILT.0, NOT_BUILT.1),
         ("GET /revision", "", OK, "{\"revision\":0}"),
-        ("GET /revision?", "", NOT_BUILT.0, NOT_BUILT.1),
+        ("GET /revision?", "", OK, "{\"revision\":0}"),
         (
             "GET /groups/2/rows",
             "",

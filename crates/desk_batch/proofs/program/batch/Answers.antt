@@ -2,7 +2,7 @@ use Rattle.std.proofs.Common.{refl}
 use Rattle.desk_talk.proofs.Completeness.{completes}
 use Rattle.desk_talk.proofs.Nothing.{nothing_session}
 use Rattle.desk_talk.specs.declared.ends.SessionEnd.TheVariants.{NoMemory}
-use Rattle.desk_batch.specs.Exchanges.{Exchanged, IsStopped}
+use Rattle.desk_route.specs.Exchanges.{Exchanged, IsStopped}
 use Rattle.desk_batch.specs.Runs.{JoinsPages}
 use Rattle.desk_batch.specs.Turns.{opened_over, OwnTurn, NeverSpent}
 use Rattle.desk_batch.specs.Words.{tables_of}

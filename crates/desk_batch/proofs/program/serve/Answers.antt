@@ -2,12 +2,12 @@ use Rattle.std.proofs.Common.{subst}
 use Rattle.desk_core.specs.Books.{BookState}
 use Rattle.desk_talk.specs.Sessions.{Turns}
 use Rattle.desk_talk.proofs.Carried.{carried_turns, carried_session}
-use Rattle.desk_batch.specs.Exchanges.{Exchanged, IsStopped}
+use Rattle.desk_route.specs.Exchanges.{Exchanged, IsStopped}
 use Rattle.desk_batch.specs.Runs.{JoinsPages}
 use Rattle.desk_batch.specs.Turns.{OwnTurn, NeverSpent}
-use Rattle.desk_batch.specs.declared.turns.Serving.{Serving}
+use Rattle.desk_route.specs.declared.turns.Serving.{Serving}
 use Rattle.desk_batch.specs.declared.turns.Alone.{Alone}
-use Rattle.desk_batch.proofs.CarriedTurns.{turn_of, stop_of}
+use Rattle.desk_route.proofs.CarriedTurns.{turn_of, stop_of}
 use Rattle.desk_batch.proofs.ShownLemmas.{joins_over}
 use Rattle.desk_batch.proofs.program.serve.Goals as goal
 
