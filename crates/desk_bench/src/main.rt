@@ -53,7 +53,7 @@ fn read_words(rt: &HostRuntime) -> Asked {
 /// What the work finds, in all of its rounds.
 fn found(alloc: Global, work: Work, resources: u16, rounds: u32) -> Result<usize, Stop> {
     let mut tables = Tables::empty(alloc);
-    fill(alloc, &mut tables, resources)?;
+    fill(alloc, &mut tables, resources, work == Work::Same)?;
     ready::found(alloc, &tables, work, rounds)
 }
 

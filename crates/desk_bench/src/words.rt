@@ -19,6 +19,8 @@ pub enum Work {
     Case,
     /// The case of group 2 is built.
     Case12,
+    /// Part-of-same is judged of twenty-four picks that are in one crew.
+    Same,
     /// A booking is judged that has no room.
     Refusal,
     /// The first page of group 1.
@@ -31,7 +33,7 @@ pub enum Work {
     All,
 }
 
-const WORDS: [(&str, Work); 13] = [
+const WORDS: [(&str, Work); 14] = [
     ("idle", Work::Idle),
     ("index", Work::Index),
     ("book", Work::Book),
@@ -40,6 +42,7 @@ const WORDS: [(&str, Work); 13] = [
     ("fit", Work::Fit),
     ("case", Work::Case),
     ("case12", Work::Case12),
+    ("same", Work::Same),
     ("refusal", Work::Refusal),
     ("page", Work::Page),
     ("resumed", Work::Resumed),

@@ -5,6 +5,7 @@ mod groups;
 mod indexes;
 mod pages;
 mod refusals;
+mod same;
 mod searches;
 mod views;
 
@@ -34,6 +35,7 @@ fn found_in_groups(
     match work {
         Work::Case => cases::of_group(alloc, tables, 1, rounds),
         Work::Case12 => cases::of_group(alloc, tables, 2, rounds),
+        Work::Same => same::of_crew(alloc, tables, rounds),
         Work::Refusal => refusals::of_group(alloc, index, tables, rounds),
         Work::Page => searches::first_pages(alloc, index, tables, 1, 50, rounds),
         Work::Resumed => searches::second_pages(alloc, index, tables, rounds),

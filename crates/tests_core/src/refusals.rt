@@ -231,7 +231,7 @@ fn a_bad_tree_comes_before_a_booked_group(rt: HostRuntime) -> Result<(), Fail> {
 /// Dan (4) is alone in unit 2, and works as Ann does.
 #[test]
 fn a_place_is_judged_point_by_point(rt: HostRuntime) -> Result<(), Fail> {
-    let lines: [Line; 13] = [
+    let lines: [Line; 15] = [
         (
             Asked::Change(1, "put_unit", r#""id":2,"name":"North""#),
             r#"{"done":"put","repeated":false,"revision":1}"#,
@@ -283,6 +283,22 @@ fn a_place_is_judged_point_by_point(rt: HostRuntime) -> Result<(), Fail> {
                 r#""id":3,"name":"Visit","from":"2025-01-06T08:00Z","to":"2025-01-06T12:00Z","step":60,"tree":{"all":[{"leaf":{"duration":60,"effort":1,"restricted":[1]}},{"leaf":{"duration":60,"effort":1,"required":[4]}}],"same":"unit"}"#,
             ),
             r#"{"done":"put","repeated":false,"revision":4}"#,
+        ),
+        (
+            Asked::Change(
+                5,
+                "book_group",
+                r#""group":3,"start":"2025-01-06T08:00Z","picks":[1]"#,
+            ),
+            r#"{"leaf":1,"refused":"bad_shape","revision":4}"#,
+        ),
+        (
+            Asked::Change(
+                5,
+                "book_group",
+                r#""group":3,"start":"2025-01-06T08:00Z","picks":[1,4]"#,
+            ),
+            r#"{"leaf":0,"refused":"not_eligible","resource":1,"revision":4,"rule":"restricted"}"#,
         ),
         (
             Asked::Change(

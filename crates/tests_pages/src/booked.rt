@@ -1,6 +1,6 @@
 //! Pages beside standing bookings: those of the group itself do not count.
 use crate::fixtures::{Asks, EIGHT, ELEVEN, LEAF, NINE, NOON, TEN, Visit, Wanted};
-use crate::wanted::{Asked, Given, Row, pages_of};
+use crate::wanted::{ANY, Asked, Given, Row, pages_of};
 use std::test::Fail;
 
 /// Another group, which asks for one resource.
@@ -56,7 +56,7 @@ const ANOTHER_HOUR_TAKEN: [Row; 9] = [
 #[test]
 fn its_own_booking_does_not_count(rt: HostRuntime) -> Result<(), Fail> {
     let pages: [(Asked, Given); 1] = [(
-        (None, None, None, 0, 500),
+        (ANY, None, None, 0, 500),
         (&ALL_ROWS, Some(LAST), None, true),
     )];
     let rows = [Wanted::Booking(1, 1, 1, EIGHT)];
@@ -66,7 +66,7 @@ fn its_own_booking_does_not_count(rt: HostRuntime) -> Result<(), Fail> {
 #[test]
 fn another_group_takes_an_hour(rt: HostRuntime) -> Result<(), Fail> {
     let pages: [(Asked, Given); 1] = [(
-        (None, None, None, 0, 500),
+        (ANY, None, None, 0, 500),
         (&ONE_HOUR_TAKEN, Some(LAST), None, true),
     )];
     let rows = [Wanted::Group(OTHER), Wanted::Booking(1, 2, 1, EIGHT)];
@@ -83,11 +83,11 @@ const TWO_BOOKINGS: [Wanted; 3] = [
 #[test]
 fn each_group_sees_the_bookings_of_the_other(rt: HostRuntime) -> Result<(), Fail> {
     let of_first: [(Asked, Given); 1] = [(
-        (None, None, None, 0, 500),
+        (ANY, None, None, 0, 500),
         (&ANOTHER_HOUR_TAKEN, Some(LAST), None, true),
     )];
     let of_second: [(Asked, Given); 1] = [(
-        (None, None, None, 0, 500),
+        (ANY, None, None, 0, 500),
         (&ONE_HOUR_TAKEN, Some(LAST), None, true),
     )];
     pages_of(&rt, rt.alloc(), &TWO_BOOKINGS, 1, &of_first)?;

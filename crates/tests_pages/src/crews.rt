@@ -2,7 +2,7 @@
 use crate::fixtures::{
     ALL, Asks, EIGHT, ELEVEN, HALF_PAST_EIGHT, LEAF, LEAF_BELOW, NINE, NOON, TEN, Visit, Wanted,
 };
-use crate::wanted::{Asked, Given, Row, pages_of};
+use crate::wanted::{ANY, Asked, Given, Row, pages_of};
 use desk_base::{Kind, NodeKind, Same};
 use std::test::Fail;
 
@@ -19,7 +19,7 @@ const A_CREW_AND_ONE_MORE: Visit = Visit {
 fn a_crew_takes_its_member(rt: HostRuntime) -> Result<(), Fail> {
     let only: Row = (EIGHT, &[10, 2]);
     let pages: [(Asked, Given); 1] = [(
-        (None, None, None, 0, 500),
+        (ANY, None, None, 0, 500),
         (&[only], Some(only), None, true),
     )];
     let rows = [
@@ -42,10 +42,7 @@ const A_CREW: Visit = Visit {
 fn a_membership_that_ends(rt: HostRuntime) -> Result<(), Fail> {
     let last: Row = (NINE, &[10]);
     let rows: [Row; 3] = [(EIGHT, &[10]), (HALF_PAST_EIGHT, &[10]), last];
-    let pages: [(Asked, Given); 1] = [(
-        (None, None, None, 0, 500),
-        (&rows, Some(last), None, true),
-    )];
+    let pages: [(Asked, Given); 1] = [((ANY, None, None, 0, 500), (&rows, Some(last), None, true))];
     let rows = [
         Wanted::Crew(10),
         Wanted::Member(10, 1, EIGHT, TEN),
@@ -67,10 +64,7 @@ const OF_ONE_CREW: Visit = Visit {
 fn a_membership_that_begins(rt: HostRuntime) -> Result<(), Fail> {
     let last: Row = (ELEVEN, &[1]);
     let rows: [Row; 3] = [(NINE, &[1]), (TEN, &[1]), last];
-    let pages: [(Asked, Given); 1] = [(
-        (None, None, None, 0, 500),
-        (&rows, Some(last), None, true),
-    )];
+    let pages: [(Asked, Given); 1] = [((ANY, None, None, 0, 500), (&rows, Some(last), None, true))];
     let rows = [
         Wanted::Crew(10),
         Wanted::Member(10, 1, NINE, NOON),

@@ -1,6 +1,6 @@
 //! Groups of four and of twelve leaves, and a hundred resources. A search that goes through all rows does not come to an end.
 use crate::fixtures::{ALL, Asks, EIGHT, ELEVEN, LEAF_BELOW, NOON, Shape, Visit, Wanted};
-use crate::wanted::{Asked, Given, Row, pages_of};
+use crate::wanted::{ANY, Asked, Given, Row, pages_of};
 use std::test::Fail;
 
 const FOUR_NODES: [Shape; 5] = [ALL, LEAF_BELOW, LEAF_BELOW, LEAF_BELOW, LEAF_BELOW];
@@ -37,17 +37,17 @@ const FIRST_OF_TWELVE: Row = (EIGHT, &[1, 2, 4, 5, 6, 7, 8, 9, 10, 11, 12, 13]);
 const LATE_OF_TWELVE: Row = (ELEVEN, &[100, 1, 2, 3, 4, 5, 6, 7, 8, 9, 10, 11]);
 
 const A_PAGE_OF_FOUR: [(Asked, Given); 1] = [(
-    (None, None, None, 0, 1),
+    (ANY, None, None, 0, 1),
     (&[FIRST_OF_FOUR], Some(FIRST_OF_FOUR), None, false),
 )];
 
 const PAGES_OF_TWELVE: [(Asked, Given); 2] = [
     (
-        (None, None, None, 0, 1),
+        (ANY, None, None, 0, 1),
         (&[FIRST_OF_TWELVE], Some(FIRST_OF_TWELVE), None, false),
     ),
     (
-        (None, None, Some((ELEVEN, &[100])), 0, 1),
+        (ANY, None, Some((ELEVEN, &[100])), 0, 1),
         (&[LATE_OF_TWELVE], Some(LATE_OF_TWELVE), None, false),
     ),
 ];

@@ -2,7 +2,7 @@
 use crate::fixtures::{
     ALL, Asks, EIGHT, ELEVEN, LEAF_BELOW, LEAF_TWO_BELOW, NINE, Shape, TEN, Visit, Wanted,
 };
-use crate::wanted::{Asked, Given, Row, pages_of};
+use crate::wanted::{ANY, Asked, Given, Row, pages_of};
 use desk_base::{NodeKind, Same};
 use std::test::Fail;
 
@@ -38,10 +38,7 @@ const ROLES: [Wanted; 7] = [
 fn one_leaf_or_two_others(rt: HostRuntime) -> Result<(), Fail> {
     let last: Row = (TEN, &[0, 2, 3]);
     let rows: [Row; 2] = [(TEN, &[1, 0, 0]), last];
-    let pages: [(Asked, Given); 1] = [(
-        (None, None, None, 0, 500),
-        (&rows, Some(last), None, true),
-    )];
+    let pages: [(Asked, Given); 1] = [((ANY, None, None, 0, 500), (&rows, Some(last), None, true))];
     pages_of(&rt, rt.alloc(), &ROLES, 2, &pages)
 }
 
@@ -70,9 +67,6 @@ const UNITS: [Wanted; 7] = [
 fn two_of_one_unit(rt: HostRuntime) -> Result<(), Fail> {
     let last: Row = (EIGHT, &[7, 6]);
     let rows: [Row; 4] = [(EIGHT, &[4, 5]), (EIGHT, &[5, 4]), (EIGHT, &[6, 7]), last];
-    let pages: [(Asked, Given); 1] = [(
-        (None, None, None, 0, 500),
-        (&rows, Some(last), None, true),
-    )];
+    let pages: [(Asked, Given); 1] = [((ANY, None, None, 0, 500), (&rows, Some(last), None, true))];
     pages_of(&rt, rt.alloc(), &UNITS, 2, &pages)
 }

@@ -2,7 +2,7 @@
 use crate::fixtures::Wanted;
 use crate::rows::{minute, tables_with};
 use crate::searches::{Point, page_of};
-use desk_base::{Items, NoMemory, Options, Page, Picks, Position, ResourceId, Tables};
+use desk_base::{Items, Minute, NoMemory, Options, Page, Picks, Position, ResourceId, Tables};
 use std::alloc::Global;
 use std::process::Abort;
 use std::test::Fail;
@@ -10,9 +10,15 @@ use std::test::Fail;
 /// A start and its picks, with 0 for a leaf that is left out.
 pub(crate) type Row<'a> = (u32, &'a [u32]);
 
-/// What a page is asked with: from which start on, how many rows of each start it shows, the position that it goes on after, how
+/// From which start on, and before which.
+pub(crate) type Between = (Option<u32>, Option<u32>);
+
+/// Any start.
+pub(crate) const ANY: Between = (None, None);
+
+/// What a page is asked with: between which starts, how many rows of each start it shows, the position that it goes on after, how
 /// many rows of that start were shown, and how many rows it may have.
-pub(crate) type Asked<'a> = (Option<u32>, Option<u32>, Option<Row<'a>>, u16, u16);
+pub(crate) type Asked<'a> = (Between, Option<u32>, Option<Row<'a>>, u16, u16);
 
 /// What it gives: its rows, where the next page goes on, how many rows of that start were shown, and whether none is left.
 pub(crate) type Given<'a> = (&'a [Row<'a>], Option<Row<'a>>, Option<u16>, bool);
@@ -42,25 +48,28 @@ fn after_of(alloc: Global, row: Option<Row>) -> Result<Option<Position>, Fail> {
     }
 }
 
-fn options_of(from: Option<u32>, per: Option<u32>) -> Result<Options, Fail> {
-    let from = match from {
+fn minute_of(number: Option<u32>) -> Result<Option<Minute>, Fail> {
+    match number {
         Some(number) => {
             let minute = minute(number)?;
-            Some(minute)
+            Ok(Some(minute))
         }
-        None => None,
-    };
+        None => Ok(None),
+    }
+}
+
+fn options_of(between: Between, per: Option<u32>) -> Result<Options, Fail> {
     Ok(Options {
-        from,
-        to: None,
+        from: minute_of(between.0)?,
+        to: minute_of(between.1)?,
         per,
     })
 }
 
 /// The page of a group of the tables.
 fn asked_page(alloc: Global, tables: &Tables, group: u32, asked: Asked) -> Result<Page, Fail> {
-    let (from, per, after, shown, limit) = asked;
-    let options = options_of(from, per)?;
+    let (between, per, after, shown, limit) = asked;
+    let options = options_of(between, per)?;
     let after = after_of(alloc, after)?;
     let point = Point {
         after: after.as_ref(),

@@ -14,7 +14,7 @@ const TWELVE: u16 = 12;
 pub(crate) const WEEKS: u16 = 5;
 
 /// Of an hour.
-fn leaf(alloc: Global, roles: Roles) -> Leaf {
+pub(crate) fn leaf(alloc: Global, roles: Roles) -> Leaf {
     Leaf {
         duration: HOUR,
         offset: 0,
@@ -37,7 +37,7 @@ fn first_role(alloc: Global) -> Result<Roles, Stop> {
 }
 
 /// A leaf node at this depth.
-fn node(depth: u8) -> Node {
+pub(crate) fn node(depth: u8) -> Node {
     Node {
         depth,
         kind: NodeKind::Leaf,
@@ -78,7 +78,7 @@ fn twelve_leaves(alloc: Global) -> Result<Leaves, Stop> {
 }
 
 /// A group that starts in the five days from the Monday on.
-fn group(
+pub(crate) fn group(
     alloc: Global,
     id: u32,
     step: u16,
