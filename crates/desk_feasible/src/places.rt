@@ -15,7 +15,7 @@ use crate::asks::new_asks;
 use crate::points::first_broken;
 use desk_base::{Clash, GroupRow, Minute, NoMemory, NodeNo, Refusal, ResourceId, Tables};
 use desk_load::{LoadIndex, clash};
-use desk_need::{all_crews, first_broken_node};
+use desk_need::{crews_for, first_broken_node};
 use std::alloc::Global;
 
 /// Where the bookings of the picks clash with those of other groups.
@@ -79,7 +79,7 @@ fn same_refusal(
     requires served { IsServed tables.now group.now start picks.now }
     ensures { IfOk result (λ r. MatchOption r (IsFeasible tables.now group.now start picks.now) (IsPlaceRefusal tables.now group.now start picks.now)) }
 {
-    let crews = all_crews(alloc, tables)?;
+    let crews = crews_for(alloc, tables, group.nodes.as_slice())?;
     match first_broken_node(tables, crews.as_slice(), start.get(), group, picks) {
         Some(node) => Ok(Some(Refusal::NotSame(node as NodeNo))),
         None => room_refusal(alloc, index, tables, group, start, picks),

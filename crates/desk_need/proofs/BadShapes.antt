@@ -1,12 +1,12 @@
 -- Where picks have none of a tree's patterns, by the bits with which they begin one.
-use Rattle.std.proofs.Common.{◌≡◌, ℕ, zero, suc, ◌+◌, ◌<◌, ◌≤◌, Bool, List, [], ◌∷◌, ◌++◌, map, length, take, get_or, Option, None, is_some, ◌⊎◌, inl, inr, refl, sym, ap, ◌∙◌, subst, arith, add-one, length-append}
+use Rattle.std.proofs.Common.{◌≡◌, ℕ, zero, suc, ◌+◌, ◌<◌, ◌≤◌, Bool, List, [], ◌∷◌, ◌++◌, length, take, get_or, Option, None, is_some, ◌⊎◌, inl, inr, refl, sym, ap, ◌∙◌, subst, arith, add-one, length-append}
 use Rattle.std.proofs.Math.Seq.{take-length}
 use Rattle.std.proofs.lemmas.List.{length-take-le, length-map, append-nil}
 use Rattle.std.specs.Prelude.{Contains}
 use Rattle.desk_base.specs.declared.rows.groups.Node.{Node}
 use Rattle.desk_base.specs.rules.Limits.{leaf_limit}
 use Rattle.desk_base.specs.rules.TreeRules.{tree_fault}
-use Rattle.desk_base.specs.meaning.Trees.{tree_of, patterns, leaf_count}
+use Rattle.desk_base.specs.meaning.Trees.{tree_of, patterns}
 use Rattle.desk_base.specs.meaning.Picks.{pattern_of}
 use Rattle.desk_base.specs.search.Listing.{BeginsPattern}
 use Rattle.desk_base.specs.search.Verdicts.{LacksPick, Strays, IsBadShape}

@@ -1,5 +1,5 @@
 -- Spans that cover a time hold each minute of it, and memberships are such spans.
-use Rattle.std.proofs.Common.{◌≡◌, ℕ, ◌-◌, ◌<◌, ◌≤◌, Bool, true, false, cond, ◌&&◌, ◌||◌, ◌==◌, min, max, map, List, [], ◌∷◌, ◌⊎◌, inl, inr, refl, sym, ap, ◌∙◌, arith, nat_le, nat_lt}
+use Rattle.std.proofs.Common.{◌≡◌, ℕ, ◌-◌, ◌<◌, ◌≤◌, Bool, true, false, cond, ◌&&◌, ◌||◌, ◌==◌, min, max, map, List, [], ◌∷◌, ◌⊎◌, inl, inr, refl, sym, ap, ◌∙◌, arith, nat_le}
 use Rattle.std.proofs.lemmas.Bool.{false≢true}
 use Rattle.std.proofs.lemmas.Bool.Decides.{nat_tests}
 use Rattle.std.specs.Prelude.{filter}
@@ -8,7 +8,6 @@ use Rattle.desk_base.specs.declared.rows.tables.Tables.{Tables}
 use Rattle.desk_base.specs.declared.rows.resources.MemberRow.{MemberRow}
 use Rattle.desk_base.specs.meaning.Time.{covers}
 use Rattle.desk_base.specs.meaning.Load.{members}
-use Rattle.desk_base.proofs.lists.Members.{IsIn}
 use Rattle.desk_base.proofs.lists.Tests.{and_left, and_right, and_both, list_all_at, list_all_from, in_range, from_range}
 use Rattle.desk_need.specs.Covers.{are_covered}
 use Rattle.desk_need.proofs.Begins.{or_cases, or_left, or_right}

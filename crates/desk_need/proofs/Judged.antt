@@ -1,11 +1,11 @@
 -- What is said of trees, node by node.
-use Rattle.std.proofs.Common.{◌≡◌, ℕ, suc, ◌-◌, ◌<◌, ◌≤◌, Bool, true, false, cond, not, ◌&&◌, ◌||◌, ◌==◌, List, [], ◌∷◌, length, take, drop, get_or, refl, sym, ap, ◌∙◌, subst, arith, nat_lt}
+use Rattle.std.proofs.Common.{◌≡◌, ℕ, ◌-◌, ◌<◌, ◌≤◌, Bool, true, false, cond, ◌&&◌, ◌||◌, ◌==◌, List, [], ◌∷◌, length, take, drop, get_or, refl, sym, ap, ◌∙◌, subst, arith, nat_lt}
 use Rattle.std.proofs.lemmas.Bool.Decides.{nat_tests}
 use Rattle.std.proofs.lemmas.List.{take_all}
 use Rattle.desk_base.specs.declared.rows.groups.Node.{Node}
 use Rattle.desk_base.specs.declared.rows.groups.NodeKind.{NodeKind}
 use Rattle.desk_base.specs.declared.rows.groups.NodeKind.TheVariants.{All, Any, Leaf}
-use Rattle.desk_base.specs.meaning.Trees.{Tree, Trees, none, tree_and, children, siblings_after, tree_by, trees_of, tree_of, leaf_count, leaf_counts}
+use Rattle.desk_base.specs.meaning.Trees.{Trees, none, tree_and, children, siblings_after, tree_by, trees_of, leaf_count, leaf_counts}
 use Rattle.desk_need.specs.Judging.{none_chosen, begins, all_begin, one_begins, begins_by, none_by, bits_by, Judges, begins_at}
 use Rattle.desk_need.proofs.Begins.{drop-add, none_chosen-add}
 

@@ -8,6 +8,7 @@ pub mod BadShapes
 -- Part-of-same: spans that cover a time, and crews.
 pub mod CoverLemmas
 pub mod CrewLemmas
+pub mod OtherNodes
 -- Who serves each leaf.
 pub mod CandidateLemmas
 -- Starts that keep the rule of windows.

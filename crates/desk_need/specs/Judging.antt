@@ -1,5 +1,5 @@
 -- Whether bits begin a pattern of a tree, by what its parts say of their own bits.
-use Rattle.std.specs.Prelude.{ℕ, ◌≡◌, Bool, true, false, not, ◌&&◌, ◌||◌, ◌==◌, List, [], ◌∷◌, take, drop, length}
+use Rattle.std.specs.Prelude.{ℕ, ◌≡◌, Bool, true, false, not, ◌&&◌, ◌||◌, ◌==◌, List, take, drop, length}
 use Rattle.std.specs.List.{list_all}
 use Rattle.desk_base.specs.declared.rows.groups.Node.{Node}
 use Rattle.desk_base.specs.declared.rows.groups.NodeKind.{NodeKind}

@@ -12,6 +12,6 @@ mod serving;
 mod trees;
 
 pub use cases::{Case, StartRun, is_in_windows, window_starts};
-pub use same::{all_crews, first_broken_node};
+pub use same::{crews_for, first_broken_node};
 pub use serving::{Eligibility, eligible};
 pub use trees::{Choices, Tree, TreeError};

@@ -5,5 +5,5 @@ mod marks;
 mod nodes;
 
 pub(crate) use covers::begin_of;
-pub use crews::all_crews;
+pub use crews::crews_for;
 pub use nodes::first_broken_node;

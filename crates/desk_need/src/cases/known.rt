@@ -6,13 +6,13 @@ ghost use Rattle.desk_base.specs.rules.TreeRules.{tree_fault};
 ghost use Rattle.desk_need.specs.Candidates.{AreCandidates};
 
 use crate::cases::candidates::candidates_of;
-use crate::same::{all_crews, first_broken_node};
+use crate::same::{crews_for, first_broken_node};
 use crate::trees::Tree;
 use desk_base::{GroupRow, Minute, NoMemory, NodeNo, ResourceId, Resources, Tables};
 use std::alloc::Global;
 use std::marker::Model;
 
-/// A group and the tables in which it stands, with its tree, the resources that serve each leaf, and the crews. Contracts see it
+/// A group and the tables in which it stands, with its tree, the resources that serve each leaf, and the crews that it needs. Contracts see it
 /// as the tables and the group. It holds no calendar and no booking.
 #[derive(Debug, Drop)]
 pub struct Case<'a> {
@@ -45,7 +45,7 @@ impl<'a> Case<'a> {
         ensures group { IfOk result (λ case. case.group ≡ group.now) }
     {
         let candidates = candidates_of(alloc, tables, group.leaves.as_slice())?;
-        let crews = all_crews(alloc, tables)?;
+        let crews = crews_for(alloc, tables, group.nodes.as_slice())?;
         Ok(Case {
             tables,
             group,

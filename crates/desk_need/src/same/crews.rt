@@ -1,13 +1,14 @@
 //! Whether some crew has all who are chosen.
-ghost use Rattle.std.specs.Prelude.{◌≡◌, ◌<◌, ◌^◌, ◌+◌, ◌==◌, ◌++◌, ◌∷◌, [], length, map, filter, IfOk, OnOk, if◌then◌else◌};
+ghost use Rattle.std.specs.Prelude.{◌≡◌, ℕ, List, false, ◌<◌, ◌^◌, ◌+◌, ◌==◌, ◌++◌, ◌∷◌, [], length, map, filter, IfOk, OnOk, if◌then◌else◌};
 ghost use Rattle.std.specs.List.{list_any, list_all};
 ghost use Rattle.desk_base.specs.declared.rows.resources.ResourceRow.{ResourceRow};
+ghost use Rattle.desk_base.specs.declared.rows.tables.Tables.{Tables};
 ghost use Rattle.desk_base.specs.meaning.Picks.{choices_of, is_in_crew, have_one_crew};
 ghost use Rattle.desk_base.specs.rows.Lookups.{KeysRise};
-ghost use Rattle.desk_need.specs.Crews.{is_crew_row, crews_of};
+ghost use Rattle.desk_need.specs.Crews.{is_crew_row, crews_of, AreCrewsFor};
 
 use crate::same::covers::is_member_throughout;
-use desk_base::{Kind, Leaf, ResourceId, ResourceRow, Tables};
+use desk_base::{Kind, Leaf, Node, ResourceId, ResourceRow, Same, Tables};
 use std::alloc::{AllocError, Global};
 
 #[tactic(auto, unfolding(crate::specs::Crews::is_crew_row))]
@@ -47,10 +48,39 @@ fn crews_among(alloc: Global, rows: &[ResourceRow]) -> Result<Vec<ResourceId>, A
 }
 
 /// The crews of a schedule, rising.
-pub fn all_crews(alloc: Global, tables: &Tables) -> Result<Vec<ResourceId>, AllocError>
+fn all_crews(alloc: Global, tables: &Tables) -> Result<Vec<ResourceId>, AllocError>
     ensures { IfOk result (λ v. v.items ≡ crews_of tables.now) }
 {
     crews_among(alloc, tables.resources.as_slice())
+}
+
+/// Whether one of the nodes asks that those who are chosen are of one crew.
+fn ask_for_crew(nodes: &[Node]) -> bool
+    ensures { (t : Tables) (crews : List ℕ) → result ≡ false → AreCrewsFor t nodes.now crews }
+{
+    match nodes {
+        [] => false,
+        [node, others @ ..] => match node.same {
+            Same::Crew => true,
+            _ => ask_for_crew(others),
+        },
+    }
+}
+
+/// The crews that the nodes need: all of the schedule, rising, where a node asks for a crew, and else none. Only where one does are
+/// the resources walked.
+pub fn crews_for(
+    alloc: Global,
+    tables: &Tables,
+    nodes: &[Node],
+) -> Result<Vec<ResourceId>, AllocError>
+    ensures { IfOk result (λ v. AreCrewsFor tables.now nodes.now v.items) }
+{
+    if ask_for_crew(nodes) {
+        all_crews(alloc, tables)
+    } else {
+        Ok(Vec::new(alloc))
+    }
 }
 
 /// Whether each chosen resource is a member of the crew at every minute of its leaf.

@@ -2,7 +2,8 @@
 ghost use Rattle.std.specs.Prelude.{◌≡◌, ◌≤◌, ◌<◌, ◌^◌, ◌+◌, length, take, drop, position, not, option_map, MatchOption, ⊤};
 ghost use Rattle.desk_base.specs.meaning.Picks.{choices_of, keeps, leaves_under, spans, keeps_same, first_broken_same};
 ghost use Rattle.desk_base.specs.rows.Lookups.{KeysRise};
-ghost use Rattle.desk_need.specs.Crews.{crews_of};
+ghost use Rattle.desk_base.specs.declared.rows.groups.Same.TheVariants.{Crew};
+ghost use Rattle.desk_need.specs.Crews.{crews_of, AreCrewsFor};
 
 use crate::same::crews::have_one_crew;
 use crate::same::marks::{Mark, have_one};
@@ -20,7 +21,7 @@ fn keeps(
     picks: &[Option<ResourceId>],
 ) -> bool
     requires rise { KeysRise tables.now }
-    requires all { crews.now ≡ crews_of tables.now }
+    requires all { same ≡ Crew → crews.now ≡ crews_of tables.now }
     requires few { number + length leaves.now < 2 ^ 64 }
     ensures { result ≡ keeps same tables.now start (choices_of number leaves.now picks.now) }
 {
@@ -84,7 +85,7 @@ fn keeps_same(
     under: usize,
 ) -> bool
     requires rise { KeysRise tables.now }
-    requires all { crews.now ≡ crews_of tables.now }
+    requires all { node.same ≡ Crew → crews.now ≡ crews_of tables.now }
     requires few { before + under < 2 ^ 64 }
     ensures { result ≡ keeps_same tables.now start leaves.now picks.now (record { node = node; before = before; under = under }) }
 {
@@ -115,7 +116,7 @@ fn first_broken_same(
     picks: &[Option<ResourceId>],
 ) -> Option<usize>
     requires rise { KeysRise tables.now }
-    requires all { crews.now ≡ crews_of tables.now }
+    requires all { AreCrewsFor tables.now nodes.now crews.now }
     requires few { before + length nodes.now < 2 ^ 63 }
     ensures value { result ≡ position (λ x. not (keeps_same tables.now start leaves.now picks.now x)) (spans before nodes.now) }
     ensures small { MatchOption result ⊤ (λ k. k < length nodes.now) }
@@ -135,7 +136,7 @@ fn first_broken_same(
     }
 }
 
-/// The first of the group's nodes whose part-of-same is broken, where these are the crews of the tables. It takes no memory.
+/// The first of the group's nodes whose part-of-same is broken, where these are the crews that its nodes need. It takes no memory.
 pub fn first_broken_node(
     tables: &Tables,
     crews: &[ResourceId],
@@ -144,7 +145,7 @@ pub fn first_broken_node(
     picks: &[Option<ResourceId>],
 ) -> Option<usize>
     requires rise { KeysRise tables.now }
-    requires all { crews.now ≡ crews_of tables.now }
+    requires all { AreCrewsFor tables.now group.now.nodes crews.now }
     requires few { length group.now.nodes ≤ 2 ^ 19 }
     ensures value { result ≡ first_broken_same tables.now start group.now.nodes group.now.leaves picks.now }
     ensures small { MatchOption result ⊤ (λ k. k < length group.now.nodes) }

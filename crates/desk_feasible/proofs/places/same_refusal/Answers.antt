@@ -6,9 +6,6 @@ use Rattle.desk_feasible.proofs.places.same_refusal.Goals as goal
 pub first_broken_node-requires-clause-rise : goal.first_broken_node-requires-clause-rise
 first_broken_node-requires-clause-rise c = keys_rise c.args.tables.now c.requires.formed
 
-pub first_broken_node-requires-clause-all : goal.first_broken_node-requires-clause-all
-first_broken_node-requires-clause-all c = c.as_slice.ensures.value ∙ c.in_ok-crews.ensures
-
 pub first_broken_node-requires-clause-few : goal.first_broken_node-requires-clause-few
 first_broken_node-requires-clause-few c = omega (arith, few_nodes_of c.args.tables.now c.args.group.now c.requires.formed c.requires.there)
 

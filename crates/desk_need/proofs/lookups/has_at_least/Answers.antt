@@ -1,4 +1,4 @@
-use Rattle.std.proofs.Common.{◌≡◌, ap, ◌∙◌, nat_le}
+use Rattle.std.proofs.Common.{ap, ◌∙◌, nat_le}
 use Rattle.std.specs.List.{list_any}
 use Rattle.desk_base.specs.declared.rows.resources.HasRow.{HasRow}
 use Rattle.desk_base.specs.rows.Ranges.{ranks}

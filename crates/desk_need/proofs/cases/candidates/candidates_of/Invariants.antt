@@ -1,4 +1,4 @@
-use Rattle.std.proofs.Common.{◌≡◌, take}
+use Rattle.std.proofs.Common.{take}
 use Rattle.desk_need.specs.Candidates.{AreCandidatesOf}
 use Rattle.desk_need.proofs.cases.candidates.candidates_of.Given as goal
 

@@ -1,4 +1,4 @@
-use Rattle.std.proofs.Common.{◌≡◌, ◌+◌, Some, ap, sym, ◌∙◌, subst, arith}
+use Rattle.std.proofs.Common.{◌+◌, ap, sym, ◌∙◌, subst, arith}
 use Rattle.desk_need.specs.Candidates.{least_from}
 use Rattle.desk_need.proofs.CandidateLemmas.{AreHeldBelow, held_none, held_more, held_all, least_not_below}
 use Rattle.desk_need.proofs.cases.required.required_candidates.Goals as goal

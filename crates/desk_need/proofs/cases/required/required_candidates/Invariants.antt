@@ -1,4 +1,4 @@
-use Rattle.std.proofs.Common.{◌≡◌, ◌-◌, ◌^◌}
+use Rattle.std.proofs.Common.{◌-◌, ◌^◌}
 use Rattle.desk_need.proofs.CandidateLemmas.{AreHeldBelow}
 use Rattle.desk_need.proofs.cases.required.required_candidates.Given as goal
 

@@ -1,4 +1,4 @@
-use Rattle.std.proofs.Common.{◌≡◌, ℕ, ◌||◌, ap, sym, ◌∙◌}
+use Rattle.std.proofs.Common.{ℕ, ◌||◌, ap, sym, ◌∙◌}
 use Rattle.std.specs.List.{list_any, list_all}
 use Rattle.desk_base.specs.meaning.Picks.{choices_of, is_in_crew}
 use Rattle.desk_need.specs.Crews.{crews_of}

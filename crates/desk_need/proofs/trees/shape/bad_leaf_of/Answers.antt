@@ -1,4 +1,4 @@
-use Rattle.std.proofs.Common.{rules, ◌≡◌, ℕ, ◌+◌, ◌<◌, ◌≤◌, length, take, arith, below_more}
+use Rattle.std.proofs.Common.{rules, ◌+◌, length, take, arith, below_more}
 use Rattle.desk_base.specs.meaning.Picks.{pattern_of}
 use Rattle.desk_base.specs.meaning.Trees.{tree_of}
 use Rattle.desk_base.specs.search.Listing.{BeginsPattern}
