@@ -1,5 +1,5 @@
 -- Bookings with one more and without one, and those of them that pass a test.
-use Rattle.std.proofs.Common.{◌≡◌, ◌≢◌, ℕ, Bool, true, false, cond, nat_lt, List, [], ◌∷◌, ◌++◌, inl, inr, refl, sym, ap, ◌∙◌, subst, arith}
+use Rattle.std.proofs.Common.{◌≡◌, ◌≢◌, ℕ, Bool, true, false, cond, nat_lt, List, [], ◌∷◌, ◌++◌, inl, inr, refl, sym, ap, ◌∙◌, subst, arith, append_assoc}
 use Rattle.std.proofs.lemmas.Bool.Decides.{nat_tests}
 use Rattle.std.proofs.lemmas.List.{append-nil}
 use Rattle.std.proofs.lemmas.List.Elements.{filter-append}
@@ -189,3 +189,16 @@ with_is b bs = refl
 pub without_is : (k : Key) (bs : List BookingRow) → without_one key k bs ≡ rows_below key k bs ++ rows_above key k bs
 unfolding without_one
 without_is k bs = refl
+
+-- those below and those above a booking, with it between them or without it
+pub around_with : (b : BookingRow) (bs : List BookingRow) → (filter (λ (y : BookingRow). nat_lt y.id b.id) bs ++ b ∷ []) ++ filter (λ (y : BookingRow). nat_lt b.id y.id) bs ≡ with_one key b bs
+around_with b bs =
+    let e = rows_lower b bs in
+    let f = rows_upper b bs in
+    append_assoc (filter (λ (y : BookingRow). nat_lt y.id b.id) bs) (b ∷ []) (filter (λ (y : BookingRow). nat_lt b.id y.id) bs) ∙ (λ i. e i ++ b ∷ f i) ∙ sym (with_is b bs)
+
+pub around_without : (b : BookingRow) (bs : List BookingRow) → (filter (λ (y : BookingRow). nat_lt y.id b.id) bs ++ []) ++ filter (λ (y : BookingRow). nat_lt b.id y.id) bs ≡ without_one key (key b) bs
+around_without b bs =
+    let e = append-nil (filter (λ (y : BookingRow). nat_lt y.id b.id) bs) ∙ rows_lower b bs in
+    let f = rows_upper b bs in
+    (λ i. e i ++ f i) ∙ sym (without_is (key b) bs)

@@ -1,7 +1,6 @@
 -- Lists of bookings by what they belong to, when one booking comes or goes.
-use Rattle.std.proofs.Common.{◌≡◌, ℕ, zero, suc, ◌<◌, Bool, true, false, cond, ◌==◌, nat_lt, List, [], ◌∷◌, ◌++◌, map, set, length, get_or, refl, sym, ap, ◌∙◌, subst, arith, append_assoc}
+use Rattle.std.proofs.Common.{◌≡◌, ℕ, zero, suc, ◌<◌, Bool, true, false, cond, ◌==◌, List, [], ◌∷◌, map, set, length, get_or, refl, sym, ap, ◌∙◌, subst, arith}
 use Rattle.std.proofs.lemmas.Bool.Decides.{nat_tests}
-use Rattle.std.proofs.lemmas.List.{append-nil}
 use Rattle.std.specs.Prelude.{filter}
 use Rattle.std.specs.Ordering.{nat_cmp}
 use Rattle.std.specs.List.{AllByRecursion}
@@ -18,10 +17,10 @@ use Rattle.desk_load.specs.declared.weights.Weight.{Weight}
 use Rattle.desk_load.specs.Parted.{IndexParts}
 use Rattle.desk_load.specs.Changed.{IsOrdered}
 use Rattle.desk_load.specs.Lists.{lists_of}
-use Rattle.desk_load.specs.Turns.{own, listed, relisted}
+use Rattle.desk_load.specs.Turns.{listed, relisted}
 use Rattle.desk_load.proofs.Numbers.{map_map, map_same}
 use Rattle.desk_load.proofs.Reweighed.{in_place}
-use Rattle.desk_load.proofs.OneBooking.{key, BookingsRise, filter_with, filter_without, filter_beside, stands, rows_lower, rows_upper, with_is, without_is}
+use Rattle.desk_load.proofs.OneBooking.{key, BookingsRise, filter_with, filter_without, filter_beside, stands}
 
 same : (a b : ℕ) → a ≡ b → (a == b) ≡ true
 same a b e = grind (arith, nat_tests)
@@ -90,12 +89,6 @@ number_stays turn n b x false = refl
 pub relisted_numbers : (turn : Turn) (n : ℕ) (b : BookingRow) (xs : List BookingList) → map (λ (l : BookingList). l.number) (relisted turn n b xs) ≡ map (λ (l : BookingList). l.number) xs
 relisted_numbers turn n b [] = refl
 relisted_numbers turn n b (x ∷ xs) = let h = number_stays turn n b x (x.number == n) in let t = relisted_numbers turn n b xs in λ i. h i ∷ t i
-
--- ---- one list, as it is made
-
-pub listed_is : (turn : Turn) (b : BookingRow) (bs lower upper : List BookingRow) → lower ≡ filter (λ (y : BookingRow). nat_lt y.id b.id) bs → upper ≡ filter (λ (y : BookingRow). nat_lt b.id y.id) bs → (lower ++ own turn b) ++ upper ≡ listed turn b bs
-listed_is Comes b bs lower upper e f = append_assoc lower (b ∷ []) upper ∙ (let g = e ∙ rows_lower b bs in let h = f ∙ rows_upper b bs in λ i. g i ++ b ∷ h i) ∙ sym (with_is b bs)
-listed_is Goes b bs lower upper e f = ap (λ l. l ++ upper) (append-nil lower) ∙ (let g = e ∙ rows_lower b bs in let h = f ∙ rows_upper b bs in λ i. g i ++ h i) ∙ sym (without_is (key b) bs)
 
 -- a list that was put in the place of another
 pub put_list : (turn : Turn) (b : BookingRow) (n number at : ℕ) (xs ys : List BookingList) (x : BookingList) (bookings : List BookingRow) → IsStrictlySortedBy nat_cmp (map (λ (l : BookingList). l.number) xs) → ys ≡ xs → at < length ys → (get_or ys at x).number ≡ number → number ≡ n → x ≡ get_or xs at x → bookings ≡ listed turn b x.bookings

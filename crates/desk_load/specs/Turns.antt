@@ -1,5 +1,5 @@
 -- One booking that comes or goes: what it does to weights and lists.
-use Rattle.std.specs.Prelude.{◌≡◌, ℕ, ◌==◌, List, [], ◌∷◌, map, find, ℤ, pos, neg_ℤ, ◌+ℤ◌, if◌then◌else◌}
+use Rattle.std.specs.Prelude.{◌≡◌, ℕ, ◌==◌, List, map, find, ℤ, pos, neg_ℤ, ◌+ℤ◌, if◌then◌else◌}
 use Rattle.std.specs.List.{AllByRecursion}
 use Rattle.std.specs.Option.{option_map_or}
 use Rattle.desk_base.specs.declared.rows.tables.Tables.{Tables}
@@ -36,11 +36,6 @@ pub record AreRaised (more : ℕ → ℕ → ℤ) (old new : List Weight) : Type
   pub numbers : map (λ w. w.resource) new ≡ map (λ w. w.resource) old
   pub whole : AreWhole new
   pub values : (r : ℕ) → EachMinute first_minute end_of_minutes (λ m. value_under r m new ≡ value_under r m old +ℤ more r m)
-
--- the booking itself, where it comes
-abbrev pub own : Turn → BookingRow → List BookingRow
-own Comes b = b ∷ []
-own Goes b = []
 
 -- bookings with one that comes, in the place of the one of its number, or without one that goes
 abbrev pub listed : Turn → BookingRow → List BookingRow → List BookingRow

@@ -5,6 +5,7 @@
 #![tactic(auto)]
 
 mod build;
+mod by_number;
 mod changes;
 mod effects;
 mod index;
@@ -15,6 +16,7 @@ mod parts;
 mod view;
 mod weights;
 
+pub use by_number::ByNumber;
 pub use changes::PreparedIndex;
 pub use index::LoadIndex;
 pub use lists::BookingList;

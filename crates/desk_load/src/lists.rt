@@ -3,14 +3,15 @@ ghost use Rattle.std.specs.Prelude.{◌≡◌, ℕ, map, filter, IfOk};
 ghost use Rattle.desk_base.specs.rows.Ranges.{Rise, owns};
 ghost use Rattle.desk_load.specs.Lists.{owned, owned_bookings};
 
-use desk_base::{BookingRow, Items, NoMemory, Placed, rows_of};
+use crate::by_number::ByNumber;
+use desk_base::{BookingRow, NoMemory, Placed, rows_of};
 use std::alloc::Global;
 
 /// The bookings of a resource or of a group, rising by number, and the number of the resource or the group.
 #[derive(Drop)]
 pub struct BookingList {
     pub number: u32,
-    pub bookings: Items<BookingRow>,
+    pub bookings: ByNumber,
 }
 
 impl Placed for BookingList {
@@ -100,6 +101,7 @@ pub fn lists_of(
     numbers: &[u32],
     owned: Vec<Owned>,
 ) -> Result<Vec<BookingList>, NoMemory>
+    requires { Rise (λ o. o.booking.id) (λ _. 0) owned.items }
     ensures { IfOk result (λ v. v.items ≡ map (owned_bookings owned.items) numbers.now) }
 {
     let rows = in_order(owned)?;
@@ -108,7 +110,7 @@ pub fn lists_of(
         let bookings = bookings_in(alloc, rows_of(rows.as_slice(), *number))?;
         let list = BookingList {
             number: *number,
-            bookings: Items::from_vec(bookings),
+            bookings: ByNumber::of(bookings),
         };
         let Ok(()) = lists.push(list) else {
             return Err(NoMemory);

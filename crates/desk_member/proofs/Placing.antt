@@ -1,10 +1,11 @@
--- A membership that is put among others, or taken out of them.
-use Rattle.std.proofs.Common.{◌≡◌, ℕ, ◌<◌, ◌≤◌, Bool, true, false, cond, ◌&&◌, ◌||◌, ◌==◌, nat_lt, List, [], ◌∷◌, ◌++◌, inl, inr, refl, sym, ap, ◌∙◌, arith, append_assoc}
+-- A membership that is put among others, or taken out of them, and the memberships of a member in the place of others.
+use Rattle.std.proofs.Common.{◌≡◌, ℕ, ◌<◌, ◌≤◌, Bool, true, false, cond, not, ◌&&◌, ◌||◌, ◌==◌, nat_le, nat_lt, List, [], ◌∷◌, ◌++◌, inl, inr, refl, sym, ap, ◌∙◌, arith, append_assoc}
 use Rattle.std.proofs.lemmas.Bool.{cases_lt}
 use Rattle.std.proofs.lemmas.Bool.Decides.{nat_tests}
 use Rattle.std.proofs.lemmas.List.{append-nil}
 use Rattle.std.proofs.lemmas.List.Elements.{filter-append}
 use Rattle.std.specs.Prelude.{filter}
+use Rattle.std.specs.List.{AllByRecursion}
 use Rattle.std.specs.Ordering.{nat_cmp, is_lt, ordering_then}
 use Rattle.std.specs.declared.cmp.Ordering.{Ordering}
 use Rattle.std.specs.declared.cmp.Ordering.TheVariants.{Less, Equal, Greater}
@@ -15,24 +16,14 @@ use Rattle.desk_base.specs.rows.Rows.{key_of}
 use Rattle.desk_base.specs.rows.Ranges.{Rise, IsUnder}
 use Rattle.desk_base.specs.changes.Changes.{is_below, rows_below, rows_above, with_one, without_one}
 use Rattle.desk_base.proofs.lists.Members.{IsIn, all_from, all_at, in-append, in-filter}
-use Rattle.desk_base.proofs.lists.Filtered.{all_pass, none_pass}
-use Rattle.desk_base.proofs.lists.Cuts.{Rise-filter}
+use Rattle.desk_base.proofs.lists.Filtered.{all_pass, none_pass, pass_both}
+use Rattle.desk_base.proofs.lists.Cuts.{IsCut, Rise-filter, all_step}
 use Rattle.desk_member.specs.Memberships.{of_member, comes_before}
 
 abbrev key : MemberRow → Key
 key y = key_of (Member y)
 
 -- ---- filters
-
-filter_swap : {A : Type 0} (p q : A → Bool) (xs : List A) → filter p (filter q xs) ≡ filter q (filter p xs)
-filter_swap p q [] = refl
-filter_swap {A} p q (x ∷ xs) = step (p x) refl (q x) refl (filter_swap p q xs)
-  where
-    step : (a : Bool) → p x ≡ a → (b : Bool) → q x ≡ b → filter p (filter q xs) ≡ filter q (filter p xs) → filter p (cond b (x ∷ filter q xs) (filter q xs)) ≡ filter q (cond a (x ∷ filter p xs) (filter p xs))
-    step true e true f h = ap (λ c. cond c (x ∷ filter p (filter q xs)) (filter p (filter q xs))) e ∙ ap (λ l. x ∷ l) h ∙ sym (ap (λ c. cond c (x ∷ filter q (filter p xs)) (filter q (filter p xs))) f)
-    step true e false f h = h ∙ sym (ap (λ c. cond c (x ∷ filter q (filter p xs)) (filter q (filter p xs))) f)
-    step false e true f h = ap (λ c. cond c (x ∷ filter p (filter q xs)) (filter p (filter q xs))) e ∙ h
-    step false e false f h = h
 
 alike : {A : Type 0} (p q : A → Bool) (xs : List A) → ((x : A) → IsIn x xs → p x ≡ q x) → filter p xs ≡ filter q xs
 alike p q [] h = refl
@@ -82,157 +73,193 @@ before_is x y e =
     ∙ by_numbers x.group y.group y.member x.from y.from
     ∙ sym (ap (λ n. is_lt (ordering_then (nat_cmp x.group y.group) (ordering_then (nat_cmp n y.member) (nat_cmp x.from y.from)))) e)
 
--- of two members it is that of their numbers
-other_before : (x y : MemberRow) → (x.member == y.member) ≡ false → comes_before x y ≡ nat_lt x.member y.member
-other_before x y e = ap (λ b. nat_lt x.member y.member || (b && (nat_lt x.group y.group || ((x.group == y.group) && nat_lt x.from y.from)))) e ∙ last (nat_lt x.member y.member)
-  where
-    last : (b : Bool) → (b || false) ≡ b
-    last true = refl
-    last false = refl
+-- ---- the memberships of one member, with one of them and without it
 
-flipped : (a b : ℕ) → (a == b) ≡ false → (b == a) ≡ false
-flipped a b e = grind (arith, nat_tests)
+abbrev pub AreOf : ℕ → List MemberRow → Type 0
+AreOf m rows = AllByRecursion (λ (x : MemberRow). x.member ≡ m) rows
 
--- ---- the memberships of the member itself
+pub own_are : (m : ℕ) (rows : List MemberRow) → AreOf m (of_member m rows)
+own_are m rows = all_from (λ (x : MemberRow). x.member ≡ m) (of_member m rows) (λ x i. equal x.member m (in-filter (λ (y : MemberRow). y.member == m) x rows i).1)
 
-module _ (row : MemberRow) (rows : List MemberRow) where
+module _ (row : MemberRow) (own : List MemberRow) (h : AreOf row.member own) where
   abbrev lower : List MemberRow
-  lower = filter (λ y. comes_before y row) rows
+  lower = filter (λ y. comes_before y row) own
 
   abbrev upper : List MemberRow
-  upper = filter (λ y. comes_before row y) rows
+  upper = filter (λ y. comes_before row y) own
 
-  own_lower : of_member row.member lower ≡ rows_below key (key row) (of_member row.member rows)
-  own_lower =
-      filter_swap (λ (y : MemberRow). y.member == row.member) (λ y. comes_before y row) rows
-      ∙ alike (λ y. comes_before y row) (λ y. is_below (key y) (key row)) (of_member row.member rows) (λ y i. before_is y row (equal y.member row.member (in-filter (λ (z : MemberRow). z.member == row.member) y rows i).1))
+  is_own : (y : MemberRow) → IsIn y own → y.member ≡ row.member
+  is_own y i = all_at (λ (x : MemberRow). x.member ≡ row.member) own y h i
 
-  own_upper : of_member row.member upper ≡ rows_above key (key row) (of_member row.member rows)
-  own_upper =
-      filter_swap (λ (y : MemberRow). y.member == row.member) (λ y. comes_before row y) rows
-      ∙ alike (λ y. comes_before row y) (λ y. is_below (key row) (key y)) (of_member row.member rows) (λ y i. before_is row y (sym (equal y.member row.member (in-filter (λ (z : MemberRow). z.member == row.member) y rows i).1)))
+  lower_is : lower ≡ rows_below key (key row) own
+  lower_is = alike (λ y. comes_before y row) (λ y. is_below (key y) (key row)) own (λ y i. before_is y row (is_own y i))
 
-  pub own_with : of_member row.member ((lower ++ row ∷ []) ++ upper) ≡ with_one key row (of_member row.member rows)
+  upper_is : upper ≡ rows_above key (key row) own
+  upper_is = alike (λ y. comes_before row y) (λ y. is_below (key row) (key y)) own (λ y i. before_is row y (sym (is_own y i)))
+
+  pub own_with : (lower ++ row ∷ []) ++ upper ≡ with_one key row own
   unfolding with_one
-  own_with =
-      let a = own_lower in
-      let b = own_upper in
-      filter-append (λ (y : MemberRow). y.member == row.member) (lower ++ row ∷ []) upper
-      ∙ ap (λ l. l ++ of_member row.member upper) (filter-append (λ (y : MemberRow). y.member == row.member) lower (row ∷ []) ∙ ap (λ c. of_member row.member lower ++ cond c (row ∷ []) []) (same row.member))
-      ∙ append_assoc (of_member row.member lower) (row ∷ []) (of_member row.member upper)
-      ∙ (λ i. a i ++ row ∷ b i)
+  own_with = let a = lower_is in let b = upper_is in append_assoc lower (row ∷ []) upper ∙ (λ i. a i ++ row ∷ b i)
 
-  pub own_without : of_member row.member (lower ++ upper) ≡ without_one key (key row) (of_member row.member rows)
+  pub own_without : lower ++ upper ≡ without_one key (key row) own
   unfolding without_one
-  own_without =
-      let a = own_lower in
-      let b = own_upper in
-      filter-append (λ (y : MemberRow). y.member == row.member) lower upper ∙ (λ i. a i ++ b i)
+  own_without = let a = lower_is in let b = upper_is in λ i. a i ++ b i
 
-  -- ---- those of another member
+  lower_own : (y : MemberRow) → IsIn y lower → y.member ≡ row.member
+  lower_own y i = is_own y (in-filter (λ z. comes_before z row) y own i).0
 
-  module _ (r : ℕ) (e : (row.member == r) ≡ false) where
-    abbrev theirs : List MemberRow
-    theirs = of_member r rows
+  upper_own : (y : MemberRow) → IsIn y upper → y.member ≡ row.member
+  upper_own y i = is_own y (in-filter (λ z. comes_before row z) y own i).0
 
-    member_is : (y : MemberRow) → IsIn y theirs → y.member ≡ r
-    member_is y i = equal y.member r (in-filter (λ (z : MemberRow). z.member == r) y rows i).1
-
-    is_lower : (y : MemberRow) → IsIn y theirs → comes_before y row ≡ nat_lt r row.member
-    is_lower y i = other_before y row (ap (λ n. n == row.member) (member_is y i) ∙ flipped row.member r e) ∙ ap (λ n. nat_lt n row.member) (member_is y i)
-
-    is_upper : (y : MemberRow) → IsIn y theirs → comes_before row y ≡ nat_lt row.member r
-    is_upper y i = other_before row y (ap (λ n. row.member == n) (member_is y i) ∙ e) ∙ ap (λ n. nat_lt row.member n) (member_is y i)
-
-    split : filter (λ y. comes_before y row) theirs ++ filter (λ y. comes_before row y) theirs ≡ theirs
-    split = elim (cases_lt r row.member) [
-      | inl l ↦
-          let a = all_pass (λ y. comes_before y row) theirs (λ y i. is_lower y i ∙ less r row.member l) in
-          let b = none_pass (λ y. comes_before row y) theirs (λ y i. is_upper y i ∙ more r row.member l) in
-          (λ i. a i ++ b i) ∙ append-nil theirs
-      | inr l ↦
-          let a = none_pass (λ y. comes_before y row) theirs (λ y i. is_lower y i ∙ at_least r row.member l) in
-          let b = all_pass (λ y. comes_before row y) theirs (λ y i. is_upper y i ∙ above row.member r l e) in
-          λ i. a i ++ b i
-    ]
-      where
-        less : (a b : ℕ) → a < b → nat_lt a b ≡ true
-        less a b l = grind (arith, nat_tests)
-
-        more : (a b : ℕ) → a < b → nat_lt b a ≡ false
-        more a b l = grind (arith, nat_tests)
-
-        at_least : (a b : ℕ) → b ≤ a → nat_lt a b ≡ false
-        at_least a b l = grind (arith, nat_tests)
-
-        above : (a b : ℕ) → a ≤ b → (a == b) ≡ false → nat_lt a b ≡ true
-        above a b l f = grind (arith, nat_tests)
-
-    their_parts : of_member r lower ++ of_member r upper ≡ theirs
-    their_parts =
-        let a = filter_swap (λ (y : MemberRow). y.member == r) (λ y. comes_before y row) rows in
-        let b = filter_swap (λ (y : MemberRow). y.member == r) (λ y. comes_before row y) rows in
-        (λ i. a i ++ b i) ∙ split
-
-    pub others_without : of_member r (lower ++ upper) ≡ theirs
-    others_without = filter-append (λ (y : MemberRow). y.member == r) lower upper ∙ their_parts
-
-    pub others_with : of_member r ((lower ++ row ∷ []) ++ upper) ≡ theirs
-    others_with =
-        filter-append (λ (y : MemberRow). y.member == r) (lower ++ row ∷ []) upper
-        ∙ ap (λ l. l ++ of_member r upper) (filter-append (λ (y : MemberRow). y.member == r) lower (row ∷ []) ∙ ap (λ c. of_member r lower ++ cond c (row ∷ []) []) e ∙ append-nil (of_member r lower))
-        ∙ their_parts
-
--- ---- rising by member
-
-abbrev owner : MemberRow → ℕ
-owner x = x.member
-
-abbrev rank : MemberRow → ℕ
-rank x = 0
-
-under : (x y : MemberRow) → x.member ≤ y.member → IsUnder owner rank x y
-under x y l = elim (cases_lt x.member y.member) [ inl a ↦ inl a | inr b ↦ inr (omega arith, omega arith) ]
-
-joined : (xs ys : List MemberRow) → Rise owner rank xs → Rise owner rank ys → ((x y : MemberRow) → IsIn x xs → IsIn y ys → x.member ≤ y.member) → Rise owner rank (xs ++ ys)
-unfolding Rise
-joined [] ys a b h = b
-joined (x ∷ xs) ys a b h = (
-  all_from (IsUnder owner rank x) (xs ++ ys) (λ y i. elim (in-append y xs ys i) [ inl j ↦ all_at (IsUnder owner rank x) xs y a.0 j | inr j ↦ under x y (h x y (inl refl) j) ]),
-  joined xs ys a.1 b (λ z y i j. h z y (inr i) j),
-)
-
-before_low : (x y : MemberRow) → comes_before x y ≡ true → x.member ≤ y.member
-before_low x y e = by (x.member == y.member) refl
-  where
-    by : (b : Bool) → (x.member == y.member) ≡ b → x.member ≤ y.member
-    by true f = let g = equal x.member y.member f in omega (arith, g)
-    by false f = let g : nat_lt x.member y.member ≡ true = sym (other_before x y f) ∙ e in below x.member y.member g
-      where
-        below : (a b : ℕ) → nat_lt a b ≡ true → a ≤ b
-        below a b e = grind (arith, nat_tests)
-
-one_rises : (x : MemberRow) → Rise owner rank (x ∷ [])
-unfolding Rise
-one_rises x = (tt, tt)
-
-module _ (row : MemberRow) (rows : List MemberRow) (s : Rise owner rank rows) where
-  low_in : (y : MemberRow) → IsIn y (lower row rows) → y.member ≤ row.member
-  low_in y i = before_low y row (in-filter (λ z. comes_before z row) y rows i).1
-
-  high_in : (y : MemberRow) → IsIn y (upper row rows) → row.member ≤ y.member
-  high_in y i = before_low row y (in-filter (λ z. comes_before row z) y rows i).1
-
-  pub rise_without : Rise owner rank (lower row rows ++ upper row rows)
-  rise_without = joined (lower row rows) (upper row rows) (Rise-filter owner rank (λ y. comes_before y row) rows s) (Rise-filter owner rank (λ y. comes_before row y) rows s) (λ x y i j. let a = low_in x i in let b = high_in y j in omega (arith, a, b))
-
-  pub rise_with : Rise owner rank ((lower row rows ++ row ∷ []) ++ upper row rows)
-  rise_with =
-      joined (lower row rows ++ row ∷ []) (upper row rows)
-      (joined (lower row rows) (row ∷ []) (Rise-filter owner rank (λ y. comes_before y row) rows s) (one_rises row) (λ x y i j. elim j [ inl e ↦ let a = low_in x i in let f = ap owner e in omega (arith, a, f) | inr n ↦ absurd n ]))
-      (Rise-filter owner rank (λ y. comes_before row y) rows s)
-      (λ x y i j. elim (in-append x (lower row rows) (row ∷ []) i) [
-        | inl k ↦ (let a = low_in x k in let b = high_in y j in omega (arith, a, b))
-        | inr (inl e) ↦ (let f = ap owner e in let b = high_in y j in omega (arith, f, b))
-        | inr (inr n) ↦ absurd n
+  pub are_with : AreOf row.member ((lower ++ row ∷ []) ++ upper)
+  are_with =
+      all_from (λ (x : MemberRow). x.member ≡ row.member) ((lower ++ row ∷ []) ++ upper) (λ y i. elim (in-append y (lower ++ row ∷ []) upper i) [
+        | inl j ↦ elim (in-append y lower (row ∷ []) j) [
+          | inl k ↦ lower_own y k
+          | inr (inl e) ↦ ap (λ (x : MemberRow). x.member) e
+          | inr (inr n) ↦ absurd n
+        ]
+        | inr j ↦ upper_own y j
       ])
+
+  pub are_without : AreOf row.member (lower ++ upper)
+  are_without = all_from (λ (x : MemberRow). x.member ≡ row.member) (lower ++ upper) (λ y i. elim (in-append y lower upper i) [ inl j ↦ lower_own y j | inr j ↦ upper_own y j ])
+
+-- ---- rows that rise by a number
+
+module _ {A : Type 0} (owner : A → ℕ) where
+  pub cut_up_to : (o : ℕ) (xs : List A) → Rise owner (λ _. 0) xs → IsCut (λ x. nat_le (owner x) o) xs
+  unfolding Rise
+  cut_up_to o [] h = tt
+  cut_up_to o (x ∷ xs) h = (
+    λ e. all_step (IsUnder owner (λ _. 0) x) (λ y. nat_le (owner y) o ≡ false) xs (λ y u. later y u (past (owner x) e)) h.0,
+    cut_up_to o xs h.1,
+  )
+    where
+      past : (a : ℕ) → nat_le a o ≡ false → o < a
+      past a e = grind (arith, nat_tests)
+
+      later : (y : A) → IsUnder owner (λ _. 0) x y → o < owner x → nat_le (owner y) o ≡ false
+      later y (inl l) b = let c : o < owner y = omega arith in grind (arith, nat_tests)
+      later y (inr (e, l)) b = let c : o < owner y = omega arith in grind (arith, nat_tests)
+
+  -- the rows that are not up to a number are above it
+  pub above_is : (o : ℕ) (xs : List A) → filter (λ x. not (nat_le (owner x) o)) xs ≡ filter (λ x. nat_lt o (owner x)) xs
+  above_is o xs = alike (λ x. not (nat_le (owner x) o)) (λ x. nat_lt o (owner x)) xs (λ x i. beyond (owner x))
+    where
+      beyond : (a : ℕ) → not (nat_le a o) ≡ nat_lt o a
+      beyond a = grind (arith, nat_tests)
+
+  under : (x y : A) → owner x ≤ owner y → IsUnder owner (λ _. 0) x y
+  under x y l = elim (cases_lt (owner x) (owner y)) [ inl a ↦ inl a | inr b ↦ inr (omega arith, omega arith) ]
+
+  rise-append : (xs ys : List A) → Rise owner (λ _. 0) xs → Rise owner (λ _. 0) ys → ((x y : A) → IsIn x xs → IsIn y ys → owner x ≤ owner y) → Rise owner (λ _. 0) (xs ++ ys)
+  unfolding Rise
+  rise-append [] ys a b h = b
+  rise-append (x ∷ xs) ys a b h = (
+    all_from (IsUnder owner (λ _. 0) x) (xs ++ ys) (λ y i. elim (in-append y xs ys i) [ inl j ↦ all_at (IsUnder owner (λ _. 0) x) xs y a.0 j | inr j ↦ under x y (h x y (inl refl) j) ]),
+    rise-append xs ys a.1 b (λ z y i j. h z y (inr i) j),
+  )
+
+  rise_alone : (o : ℕ) (xs : List A) → AllByRecursion (λ x. owner x ≡ o) xs → Rise owner (λ _. 0) xs
+  unfolding Rise
+  rise_alone o [] h = tt
+  rise_alone o (x ∷ xs) h = (
+    all_from (IsUnder owner (λ _. 0) x) xs (λ y i. let a = h.0 in let b = all_at (λ z. owner z ≡ o) xs y h.1 i in under x y (omega arith)),
+    rise_alone o xs h.1,
+  )
+
+  module _ (o : ℕ) (own xs : List A) (h : AllByRecursion (λ x. owner x ≡ o) own) where
+    abbrev lesser : List A
+    lesser = filter (λ x. nat_lt (owner x) o) xs
+
+    abbrev greater : List A
+    greater = filter (λ x. nat_lt o (owner x)) xs
+
+    less : (a b : ℕ) → nat_lt a b ≡ true → a < b
+    less a b e = grind (arith, nat_tests)
+
+    lesser_in : (x : A) → IsIn x lesser → owner x < o
+    lesser_in x i = less (owner x) o (in-filter (λ z. nat_lt (owner z) o) x xs i).1
+
+    greater_in : (x : A) → IsIn x greater → o < owner x
+    greater_in x i = less o (owner x) (in-filter (λ z. nat_lt o (owner z)) x xs i).1
+
+    own_in : (x : A) → IsIn x own → owner x ≡ o
+    own_in x i = all_at (λ z. owner z ≡ o) own x h i
+
+    -- rows with some of one number in the place of those that have it
+    pub rise_around : Rise owner (λ _. 0) xs → Rise owner (λ _. 0) ((lesser ++ own) ++ greater)
+    rise_around s =
+        rise-append (lesser ++ own) greater
+        (rise-append lesser own (Rise-filter owner (λ _. 0) (λ x. nat_lt (owner x) o) xs s) (rise_alone o own h) (λ x y i j. let p = lesser_in x i in let q = own_in y j in omega arith))
+        (Rise-filter owner (λ _. 0) (λ x. nat_lt o (owner x)) xs s)
+        (λ x y i j. let q = greater_in y j in elim (in-append x lesser own i) [
+          | inl k ↦ let p = lesser_in x k in omega arith
+          | inr k ↦ let p = own_in x k in omega arith
+        ])
+
+-- ---- the memberships of a member in the place of those that it has
+
+module _ (m : ℕ) (own rows : List MemberRow) (h : AreOf m own) where
+  abbrev low : List MemberRow
+  low = filter (λ (x : MemberRow). nat_lt x.member m) rows
+
+  abbrev high : List MemberRow
+  high = filter (λ (x : MemberRow). nat_lt m x.member) rows
+
+  parts : (r : ℕ) → of_member r ((low ++ own) ++ high) ≡ (of_member r low ++ of_member r own) ++ of_member r high
+  parts r =
+      filter-append (λ (x : MemberRow). x.member == r) (low ++ own) high
+      ∙ ap (λ l. l ++ of_member r high) (filter-append (λ (x : MemberRow). x.member == r) low own)
+
+  low_none : (r : ℕ) → m ≤ r → of_member r low ≡ []
+  low_none r l = none_pass (λ (x : MemberRow). x.member == r) low (λ y i. other y.member (in-filter (λ (x : MemberRow). nat_lt x.member m) y rows i).1)
+    where
+      other : (a : ℕ) → nat_lt a m ≡ true → (a == r) ≡ false
+      other a e = grind (arith, nat_tests)
+
+  high_none : (r : ℕ) → r ≤ m → of_member r high ≡ []
+  high_none r l = none_pass (λ (x : MemberRow). x.member == r) high (λ y i. other y.member (in-filter (λ (x : MemberRow). nat_lt m x.member) y rows i).1)
+    where
+      other : (a : ℕ) → nat_lt m a ≡ true → (a == r) ≡ false
+      other a e = grind (arith, nat_tests)
+
+  low_all : (r : ℕ) → r < m → of_member r low ≡ of_member r rows
+  low_all r l = pass_both (λ (x : MemberRow). x.member == r) (λ x. nat_lt x.member m) (λ x e. passes x.member e) rows
+    where
+      passes : (a : ℕ) → (a == r) ≡ true → nat_lt a m ≡ true
+      passes a e = grind (arith, nat_tests)
+
+  high_all : (r : ℕ) → m < r → of_member r high ≡ of_member r rows
+  high_all r l = pass_both (λ (x : MemberRow). x.member == r) (λ x. nat_lt m x.member) (λ x e. passes x.member e) rows
+    where
+      passes : (a : ℕ) → (a == r) ≡ true → nat_lt m a ≡ true
+      passes a e = grind (arith, nat_tests)
+
+  pub own_around : of_member m ((low ++ own) ++ high) ≡ own
+  own_around =
+      let a = low_none m (omega arith) in
+      let b = all_pass (λ (x : MemberRow). x.member == m) own (λ y i. ap (λ n. n == m) (all_at (λ (x : MemberRow). x.member ≡ m) own y h i) ∙ same m) in
+      let c = high_none m (omega arith) in
+      parts m ∙ (λ i. (a i ++ b i) ++ c i) ∙ append-nil own
+
+  own_none : (r : ℕ) → (m == r) ≡ false → of_member r own ≡ []
+  own_none r e = none_pass (λ (x : MemberRow). x.member == r) own (λ y i. ap (λ n. n == r) (all_at (λ (x : MemberRow). x.member ≡ m) own y h i) ∙ e)
+
+  pub others_around : (r : ℕ) → (m == r) ≡ false → of_member r ((low ++ own) ++ high) ≡ of_member r rows
+  others_around r e = elim (cases_lt r m) [
+    | inl l ↦
+        let a = low_all r l in
+        let b = own_none r e in
+        let c = high_none r (omega arith) in
+        parts r ∙ (λ i. (a i ++ b i) ++ c i) ∙ append-nil (of_member r rows ++ []) ∙ append-nil (of_member r rows)
+    | inr l ↦
+        let a = low_none r l in
+        let b = own_none r e in
+        let c = high_all r (higher m r l e) in
+        parts r ∙ (λ i. (a i ++ b i) ++ c i)
+  ]
+    where
+      higher : (a b : ℕ) → a ≤ b → (a == b) ≡ false → a < b
+      higher a b l f = grind (arith, nat_tests)

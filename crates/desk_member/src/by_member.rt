@@ -1,5 +1,7 @@
 //! Memberships by member.
-ghost use Rattle.std.specs.Prelude.{◌≡◌, ℕ, ◌==◌, [], ◌∷◌, ◌++◌, false, filter, IfOk};
+ghost use Rattle.std.specs.Prelude.{◌≡◌, ℕ, ◌==◌, nat_lt, [], false, filter, IfOk};
+ghost use Rattle.std.specs.List.{AllByRecursion};
+ghost use Rattle.desk_base.specs.rows.Ranges.{Rise};
 ghost use Rattle.desk_base.specs.declared.rows.tables.AnyRow.TheVariants.{Member};
 ghost use Rattle.desk_base.specs.rows.Rows.{key_of};
 ghost use Rattle.desk_base.specs.changes.Changes.{with_one, without_one};
@@ -61,6 +63,24 @@ fn upper(alloc: Global, rows: &[MemberRow], row: &MemberRow) -> Result<Vec<Membe
     )
 }
 
+/// The memberships of the members below this one. They are found by halving.
+fn below(rows: &[MemberRow], member: u32) -> &[MemberRow]
+    requires { Rise (λ x. x.member) (λ x. 0) rows.now }
+    ensures { result.now ≡ filter (λ x. nat_lt x.member member) rows.now }
+{
+    let count = rows.partition_point(|row| row.member.get() < member);
+    &rows[..count]
+}
+
+/// The memberships of the members above this one. They are found by halving.
+fn above(rows: &[MemberRow], member: u32) -> &[MemberRow]
+    requires { Rise (λ x. x.member) (λ x. 0) rows.now }
+    ensures { result.now ≡ filter (λ x. nat_lt member x.member) rows.now }
+{
+    let first = rows.partition_point(|row| row.member.get() <= member);
+    &rows[first..]
+}
+
 impl ByMember {
     /// No memberships. It takes no memory.
     pub fn empty(alloc: Global) -> ByMember
@@ -91,18 +111,39 @@ impl ByMember {
         &rest[..count]
     }
 
+    /// The memberships with these in the place of those of a member. The others are copied as they stand, into memory that is taken
+    /// once.
+    fn around(
+        &self,
+        alloc: Global,
+        member: ResourceId,
+        own: &[MemberRow],
+    ) -> Result<ByMember, NoMemory>
+        requires { AllByRecursion (λ x. x.member ≡ member) own.now }
+        ensures own { IfOk result (λ b. of_member member b ≡ own.now) }
+        ensures others { IfOk result (λ b. (r : ℕ) → (member == r) ≡ false → of_member r b ≡ of_member r self.now) }
+    {
+        let all = self.rows.as_slice();
+        let mut rows = Vec::with_capacity(alloc, all.len() + own.len())?;
+        rows.extend_from_slice(below(all, member.get()))?;
+        rows.extend_from_slice(own)?;
+        rows.extend_from_slice(above(all, member.get()))?;
+        Ok(ByMember { rows })
+    }
+
     /// The memberships with one more, in the place of the one of its crew or pool, member and first minute, if that stands.
     pub fn with(&self, alloc: Global, row: &MemberRow) -> Result<ByMember, NoMemory>
         ensures own { IfOk result (λ b. of_member row.now.member b ≡ with_one (λ y. key_of (Member y)) row.now (of_member row.now.member self.now)) }
         ensures others { IfOk result (λ b. (r : ℕ) → (row.now.member == r) ≡ false → of_member r b ≡ of_member r self.now) }
     {
-        let mut rows = lower(alloc, self.rows.as_slice(), row)?;
+        let own = self.of_member(row.member);
+        let mut rows = lower(alloc, own, row)?;
         let Ok(()) = rows.push(*row) else {
             return Err(NoMemory);
         };
-        let above = upper(alloc, self.rows.as_slice(), row)?;
-        rows.extend_from_slice(above.as_slice())?;
-        Ok(ByMember { rows })
+        rows.extend_from_slice(upper(alloc, own, row)?.as_slice())?;
+        let list = self.around(alloc, row.member, rows.as_slice())?;
+        Ok(list)
     }
 
     /// The memberships without the one of this crew or pool, member and first minute.
@@ -110,9 +151,10 @@ impl ByMember {
         ensures own { IfOk result (λ b. of_member row.now.member b ≡ without_one (λ y. key_of (Member y)) (key_of (Member row.now)) (of_member row.now.member self.now)) }
         ensures others { IfOk result (λ b. (r : ℕ) → (row.now.member == r) ≡ false → of_member r b ≡ of_member r self.now) }
     {
-        let mut rows = lower(alloc, self.rows.as_slice(), row)?;
-        let above = upper(alloc, self.rows.as_slice(), row)?;
-        rows.extend_from_slice(above.as_slice())?;
-        Ok(ByMember { rows })
+        let own = self.of_member(row.member);
+        let mut rows = lower(alloc, own, row)?;
+        rows.extend_from_slice(upper(alloc, own, row)?.as_slice())?;
+        let list = self.around(alloc, row.member, rows.as_slice())?;
+        Ok(list)
     }
 }

@@ -10,9 +10,10 @@ ghost use Rattle.desk_load.specs.Changed.{IsOrdered, parts_of, before_of};
 ghost use Rattle.desk_load.specs.Index.{IsIndexOf};
 ghost use Rattle.desk_load.specs.Stages.{IsStage};
 
+use crate::by_number::ByNumber;
 use crate::changes::opened::{OpenIndex, place_of};
 use crate::lists::BookingList;
-use desk_base::{GroupRow, Items, NoMemory, Tables, row_of};
+use desk_base::{GroupRow, NoMemory, Tables, row_of};
 use std::alloc::Global;
 
 impl OpenIndex {
@@ -34,7 +35,7 @@ impl OpenIndex {
             return Ok(());
         }
         let at = self.booked.partition_point(|list| list.number < number);
-        let bookings = Items::new(alloc);
+        let bookings = ByNumber::empty(alloc);
         self.add_booked(at, BookingList { number, bookings })?;
         Ok(())
     }

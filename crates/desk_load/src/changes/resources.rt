@@ -15,12 +15,13 @@ ghost use Rattle.desk_load.specs.Index.{IsIndexOf};
 ghost use Rattle.desk_load.specs.Joined.{rows_off, rows_with, IsWeightAdded};
 ghost use Rattle.desk_load.specs.Stages.{IsStage};
 
+use crate::by_number::ByNumber;
 use crate::changes::follow::Stop;
 use crate::changes::opened::{OpenIndex, place_of};
 use crate::index::list_under;
 use crate::lists::BookingList;
 use crate::weights::{Weight, weight_of};
-use desk_base::{Items, NoMemory, ResourceId, ResourceRow, Tables};
+use desk_base::{NoMemory, ResourceId, ResourceRow, Tables};
 use std::alloc::Global;
 
 impl OpenIndex {
@@ -52,7 +53,7 @@ impl OpenIndex {
         ensures before { before_of self.new ≡ before_of self.old }
     {
         let at = self.standing.partition_point(|list| list.number < number);
-        let bookings = Items::new(alloc);
+        let bookings = ByNumber::empty(alloc);
         self.add_standing(at, BookingList { number, bookings })?;
         Ok(())
     }

@@ -1,5 +1,5 @@
 //! One booking that comes or goes.
-ghost use Rattle.std.specs.Prelude.{◌≡◌, ◌<◌, ◌≤◌, ℕ, nat_lt, ◌++◌, filter, take, IfOk, OnOk, IsSome, pos, ◌+ℤ◌, ◌≤ℤ◌, if◌then◌else◌, ◌==◌, ◌&&◌};
+ghost use Rattle.std.specs.Prelude.{◌≡◌, ◌<◌, ◌≤◌, ℕ, take, IfOk, OnOk, IsSome, pos, ◌+ℤ◌, ◌≤ℤ◌, if◌then◌else◌, ◌==◌, ◌&&◌};
 ghost use Rattle.std.specs.List.{AllByRecursion};
 ghost use Rattle.desk_base.specs.rules.Limits.{first_minute, end_of_minutes};
 ghost use Rattle.desk_base.specs.rules.Sound.{AreWellFormed};
@@ -12,13 +12,14 @@ ghost use Rattle.desk_member.specs.Memberships.{AreMemberships};
 ghost use Rattle.desk_member.specs.Pieces.{item_at, taken};
 ghost use Rattle.desk_load.specs.declared.changes.opened.Former.TheVariants.{Standing, Booked};
 ghost use Rattle.desk_load.specs.Changed.{IsOrdered, parts_of, before_of};
-ghost use Rattle.desk_load.specs.Turns.{turned, own, value_under, AreWhole, AreRaised, listed, relisted, IsTurned};
+ghost use Rattle.desk_load.specs.Turns.{turned, value_under, AreWhole, AreRaised, listed, relisted, IsTurned};
 
+use crate::by_number::ByNumber;
 use crate::changes::opened::{OpenIndex, place_of};
 use crate::lists::BookingList;
 use crate::parts::ask_of;
 use crate::weights::Weight;
-use desk_base::{BookingRow, Items, NoMemory, Tables};
+use desk_base::{BookingRow, NoMemory, Tables};
 use desk_member::{Item, load_pieces};
 use std::alloc::Global;
 
@@ -39,62 +40,19 @@ fn turned(turn: Turn, effort: u32) -> i64
     }
 }
 
-/// The bookings whose numbers are below this one.
-fn lower(alloc: Global, rows: &[BookingRow], number: u32) -> Result<Vec<BookingRow>, NoMemory>
-    ensures { IfOk result (λ v. v.items ≡ filter (λ b. nat_lt b.id number) rows.now) }
-{
-    Ok(
-        rows.iter()
-            .filter(|b| b.id.get() < number)
-            .map(|b| *b)
-            .collect(alloc)?,
-    )
-}
-
-/// The bookings whose numbers are above this one.
-fn upper(alloc: Global, rows: &[BookingRow], number: u32) -> Result<Vec<BookingRow>, NoMemory>
-    ensures { IfOk result (λ v. v.items ≡ filter (λ b. nat_lt number b.id) rows.now) }
-{
-    Ok(
-        rows.iter()
-            .filter(|b| number < b.id.get())
-            .map(|b| *b)
-            .collect(alloc)?,
-    )
-}
-
-/// Bookings, and the one that comes behind them.
-fn with_own(
-    bookings: Vec<BookingRow>,
-    turn: Turn,
-    booking: &BookingRow,
-) -> Result<Vec<BookingRow>, NoMemory>
-    ensures { IfOk result (λ v. v.items ≡ bookings.items ++ own turn booking.now) }
-{
-    let mut list = bookings;
-    match turn {
-        Turn::Comes => match list.push(*booking) {
-            Ok(()) => Ok(list),
-            Err(_) => Err(NoMemory),
-        },
-        Turn::Goes => Ok(list),
-    }
-}
-
 /// The bookings with the one that comes, or without the one that goes.
 fn listed(
     alloc: Global,
-    rows: &[BookingRow],
+    bookings: &ByNumber,
     turn: Turn,
     booking: &BookingRow,
-) -> Result<Items<BookingRow>, NoMemory>
-    ensures { IfOk result (λ v. v ≡ listed turn booking.now rows.now) }
+) -> Result<ByNumber, NoMemory>
+    ensures { IfOk result (λ b. b ≡ listed turn booking.now bookings.now) }
 {
-    let number = booking.id.get();
-    let mut list = with_own(lower(alloc, rows, number)?, turn, booking)?;
-    let above = upper(alloc, rows, number)?;
-    list.extend_from_slice(above.as_slice())?;
-    Ok(Items::from_vec(list))
+    match turn {
+        Turn::Comes => bookings.with(alloc, booking),
+        Turn::Goes => bookings.without(alloc, booking),
+    }
 }
 
 impl OpenIndex {
@@ -161,7 +119,7 @@ impl OpenIndex {
         let Some(at) = place_of(self.standing.as_slice(), number) else {
             return Err(NoMemory);
         };
-        let bookings = listed(alloc, self.standing[at].bookings.as_slice(), turn, booking)?;
+        let bookings = listed(alloc, &self.standing[at].bookings, turn, booking)?;
         self.put_standing(at, BookingList { number, bookings })?;
         Ok(())
     }
@@ -184,7 +142,7 @@ impl OpenIndex {
         let Some(at) = place_of(self.booked.as_slice(), number) else {
             return Err(NoMemory);
         };
-        let bookings = listed(alloc, self.booked[at].bookings.as_slice(), turn, booking)?;
+        let bookings = listed(alloc, &self.booked[at].bookings, turn, booking)?;
         self.put_booked(at, BookingList { number, bookings })?;
         Ok(())
     }

@@ -3,12 +3,15 @@ use Rattle.std.specs.Ordering.{nat_cmp}
 use Rattle.std.specs.List.{AllByRecursion}
 use Rattle.std.specs.List.Sorted.{IsStrictlySortedBy}
 use Rattle.desk_base.specs.declared.rows.bookings.BookingRow.{BookingRow}
+use Rattle.desk_base.specs.rows.Ranges.{Rise}
+use Rattle.desk_base.proofs.tables.Rising.{bookings_rise}
 use Rattle.desk_load.specs.declared.lists.BookingList.{BookingList}
+use Rattle.desk_load.specs.declared.lists.Owned.{Owned}
 use Rattle.desk_load.specs.Lists.{owned, owned_bookings, lists_of}
 use Rattle.desk_load.specs.Index.{resource_numbers, group_numbers}
 use Rattle.desk_load.specs.Parts.{IsAskable}
-use Rattle.desk_load.proofs.Listing.{lists_are, lists_climb}
-use Rattle.desk_load.proofs.Numbers.{resources_climb, groups_climb}
+use Rattle.desk_load.proofs.Listing.{rise_map, lists_are, lists_climb}
+use Rattle.desk_load.proofs.Numbers.{keys_climb, resources_climb, groups_climb}
 use Rattle.desk_load.proofs.Standing.{standing_askable}
 use Rattle.desk_load.proofs.Weighed.{weight_small}
 use Rattle.desk_load.proofs.index.LoadIndex.build.Goals as goal
@@ -18,6 +21,18 @@ parts_of-requires-clause-askable c = subst (AllByRecursion (IsAskable c.args.tab
 
 pub weights_of-requires-clause-few : goal.weights_of-requires-clause-few
 weights_of-requires-clause-few c r m = weight_small c.args.tables.now c.requires r m
+
+pub lists_of-requires : goal.lists_of-requires
+lists_of-requires c =
+    let t = c.args.tables.now in
+    subst (Rise (λ (o : Owned). o.booking.id) (λ _. 0)) (sym (c.in_ok-by_resource.ensures ∙ ap (map (owned (λ (b : BookingRow). b.resource))) c.as_slice-bookings.ensures))
+    (rise_map (owned (λ (b : BookingRow). b.resource)) (λ (o : Owned). o.booking.id) t.bookings (bookings_rise t (keys_climb t c.requires)))
+
+pub lists_of-requires-2 : goal.lists_of-requires-2
+lists_of-requires-2 c =
+    let t = c.args.tables.now in
+    subst (Rise (λ (o : Owned). o.booking.id) (λ _. 0)) (sym (c.in_ok-by_group.ensures ∙ ap (map (owned (λ (b : BookingRow). b.group))) c.as_slice-bookings.ensures))
+    (rise_map (owned (λ (b : BookingRow). b.group)) (λ (o : Owned). o.booking.id) t.bookings (bookings_rise t (keys_climb t c.requires)))
 
 pub invariant_of-result : goal.invariant_of-result
 invariant_of-result c =

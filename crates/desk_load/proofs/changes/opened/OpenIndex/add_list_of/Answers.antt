@@ -23,5 +23,5 @@ returns-clause-standing c =
     let p = IsPartitionPoint-from_clause below rows at c.partition_point-at.ensures.partitioned (cut_partitioned below rows (cut_below owner rank number rows rise)) (λ a r q k. search rules) in
     let q = subst (λ (xs : List BookingList). IsPartitionPoint (λ (l : BookingList). nat_lt l.number number ≡ true) (λ (l : BookingList). nat_lt l.number number ≡ false) xs at) c.deref.ensures.value p in
     ap (λ (i : IndexParts). i.standing) c.in_ok-add_standing.ensures.parts
-    ∙ (λ k. insert lists at (record { number = number; bookings = c.new-bookings.ensures k }))
+    ∙ (λ k. insert lists at (record { number = number; bookings = c.empty-bookings.ensures k }))
     ∙ inserted_is owner number lists at (record { number = number; bookings = [] }) (subst (λ (xs : List BookingList). at ≤ length xs) c.deref.ensures.value c.partition_point-at.ensures.bound) q (absent_number owner number lists c.requires.absent)

@@ -40,4 +40,4 @@ returns-clause-put c s more h =
     (ap (λ (i : IndexParts). i.weights) parts)
     (ap (λ (i : IndexParts). i.standing) parts)
     (ap (λ (i : IndexParts). i.members) parts)
-    (ap (λ (i : IndexParts). i.booked) parts ∙ (λ k. insert booked at (record { number = c.get-number.ensures.value k; bookings = c.new-bookings.ensures k })))
+    (ap (λ (i : IndexParts). i.booked) parts ∙ (λ k. insert booked at (record { number = c.get-number.ensures.value k; bookings = c.empty-bookings.ensures k })))

@@ -1,6 +1,5 @@
 use Rattle.std.proofs.Common.{◌∙◌, ap}
 use Rattle.desk_load.specs.Parted.{IndexParts}
-use Rattle.desk_load.specs.Turns.{listed}
 use Rattle.desk_load.proofs.Relisted.{put_list}
 use Rattle.desk_load.proofs.changes.opened.OpenIndex.relist_standing.Goals as goal
 
@@ -8,4 +7,4 @@ pub returns-clause-standing : goal.returns-clause-standing
 returns-clause-standing c =
     ap (λ (i : IndexParts). i.standing) c.in_ok-put_standing.ensures.parts
     ∙ put_list c.args.turn c.args.booking.now c.args.booking.now.resource c.get-number.result c.in-Some.at c.args.self.now.standing.items c.as_slice.result.now c.index.result.now c.in_ok-bookings.bookings c.requires.1 c.as_slice.ensures.value c.in-Some.ensures.inside (c.in-Some.ensures.there c.index.result.now) c.get-number.ensures.value c.index.ensures
-    (c.in_ok-bookings.ensures ∙ ap (listed c.args.turn c.args.booking.now) c.as_slice-2.ensures)
+    c.in_ok-bookings.ensures

@@ -1,0 +1,13 @@
+use Rattle.std.proofs.Common.{rules, ℕ}
+use Rattle.std.proofs.lemmas.List.Sorted.{IsPartitionPoint-from_clause}
+use Rattle.desk_base.specs.declared.rows.resources.MemberRow.{MemberRow}
+use Rattle.desk_base.proofs.lists.Cuts.{cut_partitioned, before_point, is_below, cut_below}
+use Rattle.desk_member.proofs.by_member.below.Goals as goal
+
+pub returns : goal.returns
+returns c =
+    let rank : MemberRow → ℕ = λ x. 0 in
+    let test = is_below (λ (x : MemberRow). x.member) rank c.args.member in
+    let rows = c.args.rows.now in
+    let point = IsPartitionPoint-from_clause test rows c.partition_point-count.result c.partition_point-count.ensures.partitioned (cut_partitioned test rows (cut_below (λ (x : MemberRow). x.member) rank c.args.member rows c.requires)) (λ a r q k. search rules) in
+    before_point test rows c.partition_point-count.result c.partition_point-count.ensures.bound point
