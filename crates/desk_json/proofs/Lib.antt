@@ -8,13 +8,13 @@ mod Runs
 mod Floats
 mod PageTexts
 -- What bodies are read as.
-mod MomentReadings
+pub mod MomentReadings
 mod EachRead
 mod NamesAmong
 mod NamesBehind
 mod TableRows
 mod RowKeys
-mod DayReadings
+pub mod DayReadings
 mod TreeSteps
 mod ParsedBodies
 pub mod AskedForms

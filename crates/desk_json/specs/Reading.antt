@@ -13,7 +13,7 @@ use Rattle.desk_json.specs.MomentReading.{moment_of, day_of}
 
 -- ---- whole numbers
 
--- the greatest numbers of 8, 16 and 32 bits
+-- the greatest numbers of 8, 16, 32 and 64 bits
 abbrev pub greatest_u8 : ℕ
 greatest_u8 = 255
 
@@ -22,6 +22,9 @@ greatest_u16 = 65535
 
 abbrev pub greatest_u32 : ℕ
 greatest_u32 = 4294967295
+
+abbrev pub greatest_u64 : ℕ
+greatest_u64 = 18446744073709551615
 
 -- a whole number up to the greatest of its type
 abbrev pub whole_of : ℕ → Field → Option Num → Result ℕ BodyError

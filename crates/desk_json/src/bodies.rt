@@ -34,7 +34,8 @@ fn read_command(alloc: Global, body: &Value) -> Result<Command, BodyError>
     Ok(Command::Change(call, act))
 }
 
-fn parse(alloc: Global, body: &[u8]) -> Result<Value, BodyError>
+/// The JSON of a body.
+pub fn parse(alloc: Global, body: &[u8]) -> Result<Value, BodyError>
     ensures json { IfOk result (λ value. parsed body.now ≡ Ok (view value)) }
     ensures fault { IfErr result (λ why. (parsed body.now ≡ Err why) ⊎ (why ≡ BodyError.NoMemory)) }
 {

@@ -21,7 +21,7 @@ pub(crate) fn missing(field: Field) -> BodyError
 
 /// What stands under a name, where a fault of it names a field.
 #[tactic(auto, unfolding(crate::specs::Forms::under))]
-pub(crate) fn value_under<T: Read>(object: &Value, name: &str, field: Field) -> Result<T, BodyError>
+pub fn value_under<T: Read>(object: &Value, name: &str, field: Field) -> Result<T, BodyError>
     ensures { result ≡ under name.now field T.meant (view object.now) }
 {
     match object.get(name) {
@@ -31,7 +31,7 @@ pub(crate) fn value_under<T: Read>(object: &Value, name: &str, field: Field) -> 
 }
 
 /// The value of a field.
-pub(crate) fn value_at<T: Read>(object: &Value, field: Field) -> Result<T, BodyError>
+pub fn value_at<T: Read>(object: &Value, field: Field) -> Result<T, BodyError>
     ensures { result ≡ at field T.meant (view object.now) }
 {
     value_under(object, field_name(field), field)
@@ -107,7 +107,7 @@ fn members_among(members: &Map<String, Value>, names: &Names) -> bool
 }
 
 /// Whether an object has no other names than these.
-pub(crate) fn has_only(value: &Value, names: &Names) -> bool
+pub fn has_only(value: &Value, names: &Names) -> bool
     ensures { result ≡ has_only (all_names names.now) (view value.now) }
 {
     match value.as_object() {

@@ -23,7 +23,7 @@ fn read_grid(body: &Value) -> Result<(Minute, Minute, u16), BodyError>
 
 /// A requirement group.
 #[tactic(auto, unfolding(crate::specs::Tables::group_form))]
-pub(crate) fn read_group(alloc: Global, body: &Value) -> Result<GroupRow, BodyError>
+pub fn read_group(alloc: Global, body: &Value) -> Result<GroupRow, BodyError>
     ensures { IsRead (group_form.read (view body.now)) result }
 {
     let id = value_at(body, Field::Id)?;

@@ -26,10 +26,15 @@ mod values;
 mod words;
 
 pub use answers::answer_text;
-pub use bodies::read_change;
+pub use bodies::{parse, read_change};
 pub use cursor_reading::{CursorError, read_cursor};
 pub use cursors::cursor_text;
 pub use decimals::{read_id, read_number};
 pub use faults::{BodyError, BodyRule};
+pub use fields::{Names, has_only, value_at, value_under};
+pub use groups::read_group;
+pub use moments::{ascii_text, moment_value};
 pub use pieces::pieces_of;
+pub use reading::Read;
+pub use tables::{Columns, columns_of, read_row};
 pub use words::field_name;

@@ -9,7 +9,8 @@ use desk_time::moment_text;
 use serde_json::Value;
 use std::alloc::{AllocError, Global};
 
-fn text_of(alloc: Global, bytes: &[u8]) -> Result<String, AllocError>
+/// A text of ASCII bytes.
+pub fn ascii_text(alloc: Global, bytes: &[u8]) -> Result<String, AllocError>
     requires { IsAscii bytes.now }
     ensures { IfOk result (λ text. string_bytes text ≡ bytes.now) }
 {
@@ -17,10 +18,10 @@ fn text_of(alloc: Global, bytes: &[u8]) -> Result<String, AllocError>
 }
 
 /// The text of a moment, as a JSON string.
-pub(crate) fn moment_value(alloc: Global, minute: Minute) -> Result<Value, AllocError>
+pub fn moment_value(alloc: Global, minute: Minute) -> Result<Value, AllocError>
     ensures value { IfOk result (λ value. view value ≡ moment_data minute) }
     ensures moment { OnOk result (IsMoment minute) }
 {
     let bytes = moment_text(minute.get());
-    Ok(Value::String(text_of(alloc, &bytes)?))
+    Ok(Value::String(ascii_text(alloc, &bytes)?))
 }

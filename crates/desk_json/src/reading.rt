@@ -13,7 +13,7 @@ use serde_json::Value;
 use std::alloc::Global;
 
 /// A value of a body that is read without taking memory.
-pub(crate) trait Read: Sized {
+pub trait Read: Sized {
     ghost use Rattle.std.specs.Prelude.{Result};
     ghost use Rattle.serde_json.specs.Data.{Data};
     ghost use Rattle.desk_base.specs.declared.asked.rules.Field.{Field};
@@ -76,6 +76,16 @@ impl Read for u32 {
     fn read(value: &Value, field: Field) -> Result<u32, BodyError> {
         let number = read_whole(value, field, u32::MAX as u64)?;
         Ok(number as u32)
+    }
+}
+
+impl Read for u64 {
+    ghost use Rattle.desk_json.specs.Reading.{greatest_u64, whole_in};
+
+    ghost meant = { whole_in greatest_u64 };
+
+    fn read(value: &Value, field: Field) -> Result<u64, BodyError> {
+        read_whole(value, field, u64::MAX)
     }
 }
 

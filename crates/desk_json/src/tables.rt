@@ -337,7 +337,7 @@ fn no_such_act() -> BodyError
 
 /// The row of a table.
 #[tactic(auto, unfolding(crate::specs::Tables::no_table))]
-pub(crate) fn read_row(alloc: Global, table: Table, body: &Value) -> Result<AnyRow, BodyError>
+pub fn read_row(alloc: Global, table: Table, body: &Value) -> Result<AnyRow, BodyError>
     ensures { IsRead ((row_form (described table)).read (view body.now)) result }
 {
     match table {
@@ -402,7 +402,7 @@ pub struct Columns {
 
 /// The names of the fields of a table.
 #[tactic(auto, unfolding(crate::specs::Tables::week_form, crate::specs::Tables::date_form, crate::specs::Tables::off_form, crate::specs::Tables::has_form, crate::specs::Tables::member_form, crate::specs::Tables::nature_form, crate::specs::Tables::place_form, crate::specs::Tables::zone_table, crate::specs::Tables::calendar_table, crate::specs::Tables::work_table, crate::specs::Tables::break_table, crate::specs::Tables::day_table, crate::specs::Tables::off_table, crate::specs::Tables::named_table, crate::specs::Tables::resource_table, crate::specs::Tables::has_table, crate::specs::Tables::rated_table, crate::specs::Tables::member_table, crate::specs::Tables::no_table))]
-pub(crate) fn columns_of(table: Table) -> Columns
+pub fn columns_of(table: Table) -> Columns
     ensures key { map (λ known. known.now) result.key.now ≡ (described table).key.names }
     ensures others { map (λ known. known.now) result.others.now ≡ (described table).rest.names }
 {

@@ -1,6 +1,6 @@
 use Rattle.std.proofs.Common.{Result, Ok, Err, MatchResult, IsOk, rules}
 use Rattle.std.proofs.lemmas.Str.{IsUtf8-from_ascii}
-use Rattle.desk_json.proofs.moments.text_of.Goals as goal
+use Rattle.desk_json.proofs.moments.ascii_text.Goals as goal
 
 no_error : {A E : Type 0} (P : A → Type 0) (Q : E → Type 0) (r : Result A E) → MatchResult r P Q → ((e : E) → ¬ (Q e)) → IsOk r
 no_error P Q (Ok x) h none = search rules

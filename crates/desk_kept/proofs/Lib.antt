@@ -1,0 +1,19 @@
+-- What is looked at, and texts that are read back.
+mod TableForms
+mod Looks
+mod ReadBack
+mod Dates
+mod KeptValues
+mod ReadRows
+mod RowLaws
+mod BookingLaws
+mod BrokenRules
+mod RuleLaws
+mod Present
+mod LeafLaws
+mod TreeShapes
+mod PlacedTrees
+mod TreeReads
+mod TreeSounds
+mod GroupLaws
+mod AllRows

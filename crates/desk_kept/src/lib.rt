@@ -1,0 +1,18 @@
+//! The kept bodies of rows: the JSON text (RFC 8259) that a keeper writes of a row beside its key, and what it reads again. A row
+//! that was written is read as the same row, where it keeps the rules of its fields and of its tree (`laws`).
+#![tactic(auto)]
+
+mod bookings;
+mod callers;
+mod groups;
+pub mod laws;
+mod leaves;
+mod names;
+mod reading;
+mod rows;
+mod text;
+mod typed;
+mod values;
+
+pub use reading::read_row;
+pub use text::row_text;
