@@ -102,36 +102,37 @@ fn pages_of_one(rt: HostRuntime) -> Result<(), Fail> {
     pages_of(&rt, rt.alloc(), &[], 1, &pages)
 }
 
+const BETWEEN_STARTS: [(Asked, Given); 6] = [
+    (
+        ((None, Some(TEN)), None, None, 0, 500),
+        (&AT_EIGHT_AND_NINE, Some((NINE, &[2])), None, true),
+    ),
+    (
+        ((Some(NINE), Some(TEN)), None, None, 0, 500),
+        (&AT_NINE, Some((NINE, &[2])), None, true),
+    ),
+    (
+        ((Some(EIGHT + 1), Some(NINE + 1)), None, None, 0, 500),
+        (&AT_NINE, Some((NINE, &[2])), None, true),
+    ),
+    (
+        ((None, Some(TEN)), None, Some((NINE, &[2])), 0, 500),
+        (&[], Some((NINE, &[2])), None, true),
+    ),
+    (
+        ((Some(NINE), Some(NINE)), None, None, 0, 500),
+        (&[], None, None, true),
+    ),
+    (
+        ((Some(TEN), Some(NINE)), None, None, 0, 500),
+        (&[], None, None, true),
+    ),
+];
+
 /// The minute that ends a search is no start of it; where a search ends before it begins, it has no row.
 #[test]
 fn between_starts(rt: HostRuntime) -> Result<(), Fail> {
-    let pages: [(Asked, Given); 6] = [
-        (
-            ((None, Some(TEN)), None, None, 0, 500),
-            (&AT_EIGHT_AND_NINE, Some((NINE, &[2])), None, true),
-        ),
-        (
-            ((Some(NINE), Some(TEN)), None, None, 0, 500),
-            (&AT_NINE, Some((NINE, &[2])), None, true),
-        ),
-        (
-            ((Some(EIGHT + 1), Some(NINE + 1)), None, None, 0, 500),
-            (&AT_NINE, Some((NINE, &[2])), None, true),
-        ),
-        (
-            ((None, Some(TEN)), None, Some((NINE, &[2])), 0, 500),
-            (&[], Some((NINE, &[2])), None, true),
-        ),
-        (
-            ((Some(NINE), Some(NINE)), None, None, 0, 500),
-            (&[], None, None, true),
-        ),
-        (
-            ((Some(TEN), Some(NINE)), None, None, 0, 500),
-            (&[], None, None, true),
-        ),
-    ];
-    pages_of(&rt, rt.alloc(), &[], 1, &pages)
+    pages_of(&rt, rt.alloc(), &[], 1, &BETWEEN_STARTS)
 }
 
 #[test]
