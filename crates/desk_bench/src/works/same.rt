@@ -10,6 +10,9 @@ use desk_base::{GroupRow, Items, Minute, Picks, ResourceId, Tables};
 use desk_need::Case;
 use std::alloc::Global;
 
+/// The rounds ask at so many starts in turn, each a minute after the one before, so that none is asked what the last one was.
+const STARTS: u32 = 60;
+
 /// The first resources, one for each leaf.
 fn picks_of(alloc: Global) -> Result<Picks, Stop> {
     let mut picks = Items::new(alloc);
@@ -19,11 +22,19 @@ fn picks_of(alloc: Global) -> Result<Picks, Stop> {
     Ok(picks)
 }
 
+/// Whether the picks have one crew at the start of the round.
+fn is_kept(case: &Case<'_>, first: Minute, round: u32, picks: &[Option<ResourceId>]) -> bool {
+    match Minute::of(first.get() + round % STARTS) {
+        Some(start) => case.same_ok(start, picks).is_ok(),
+        None => false,
+    }
+}
+
 /// How often the picks have one crew.
-fn kept(case: &Case<'_>, start: Minute, picks: &[Option<ResourceId>], rounds: u32) -> usize {
+fn kept(case: &Case<'_>, first: Minute, picks: &[Option<ResourceId>], rounds: u32) -> usize {
     let mut found = 0usize;
-    for _ in 0..rounds {
-        if case.same_ok(start, picks).is_ok() {
+    for round in 0..rounds {
+        if is_kept(case, first, round, picks) {
             found = found.wrapping_add(1);
         }
     }
