@@ -17,6 +17,8 @@ use std::test::Fail;
 pub(crate) enum Asked<'a> {
     /// A change of caller 7, by its number, its act, and the other fields of its body.
     Change(u32, &'a str, &'a str),
+    /// The first change of another caller, by its caller.
+    First(u32, &'a str, &'a str),
     /// The first rows of a group, at most so many.
     Rows(u32, u32),
     /// The entries of the journal above a revision.
@@ -58,21 +60,25 @@ fn is_built(command: &Command) -> bool
     }
 }
 
-/// The body of a change of caller 7.
-fn body_of(alloc: Global, number: u32, act: &str, fields: &str) -> Result<String, Fail> {
+/// The change of a caller, as its body is read.
+fn change_of(
+    alloc: Global,
+    caller: u32,
+    number: u32,
+    act: &str,
+    fields: &str,
+) -> Result<Command, Fail> {
     let body = format!(in alloc;
-        "{{\"act\":\"{act}\",\"caller\":7,\"number\":{number},{fields}}}"
+        "{{\"act\":\"{act}\",\"caller\":{caller},\"number\":{number},{fields}}}"
     )?;
-    Ok(body)
+    let command = read_change(alloc, body.as_bytes()).ok().ok_or("no body")?;
+    Ok(command)
 }
 
 fn command_of(alloc: Global, asked: Asked<'_>) -> Result<Command, Fail> {
     match asked {
-        Asked::Change(number, act, fields) => {
-            let body = body_of(alloc, number, act, fields)?;
-            let command = read_change(alloc, body.as_bytes()).ok().ok_or("no body")?;
-            Ok(command)
-        }
+        Asked::Change(number, act, fields) => change_of(alloc, 7, number, act, fields),
+        Asked::First(caller, act, fields) => change_of(alloc, caller, 1, act, fields),
         Asked::Rows(group, limit) => Ok(Command::Ask(Query::Rows {
             group: GroupId::of(group).ok_or("no group")?,
             options: Options {
