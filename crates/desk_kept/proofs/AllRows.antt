@@ -17,7 +17,7 @@ use Rattle.desk_kept.proofs.RowLaws.{zone_back, calendar_back, work_back, break_
 use Rattle.desk_kept.proofs.BookingLaws.{booking_back, caller_back}
 use Rattle.desk_kept.proofs.GroupLaws.{group_back}
 
-each_back : (row : AnyRow) → IsTyped row → KeepsRules row → IsReadBack row
+pub each_back : (row : AnyRow) → IsTyped row → KeepsRules row → IsReadBack row
 each_back (Zone x) is keeps = zone_back x is (All-weaker IsZoneShift (λ s. IsKept shift_in 1 (shift_data s) s) (λ s h. shift_kept s h.moment h.ahead) x.shifts (zone_shifts x keeps))
 each_back (Calendar x) is keeps = calendar_back x is
 each_back (Work x) is keeps = work_back x is

@@ -23,7 +23,7 @@ none_is : (o : Option TreeFault) → is_none o ≡ true → o ≡ None
 none_is None e = refl
 none_is (Some x) e = cc
 
-tree_holds : (g : GroupRow) → KeepsRules (Group g) → tree_fault g.nodes (length g.leaves) ≡ None
+pub tree_holds : (g : GroupRow) → KeepsRules (Group g) → tree_fault g.nodes (length g.leaves) ≡ None
 tree_holds g k = none_is (tree_fault g.nodes (length g.leaves)) (and_parts (is_none (first_broken (group_rules g))) (is_none (tree_fault g.nodes (length g.leaves))) k.1).1
 
 pub group_back : (g : GroupRow) → IsGroup g → KeepsRules (Group g) → IsReadBack (Group g)

@@ -17,3 +17,12 @@ mod TreeReads
 mod TreeSounds
 mod GroupLaws
 mod AllRows
+mod NoFloats
+mod HeldRows
+mod RowSteps
+mod MemberOffsets
+mod LastRows
+mod OffsetLaws
+mod KeptTables
+mod Horizons
+mod ReadTables

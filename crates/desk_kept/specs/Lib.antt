@@ -11,3 +11,5 @@ pub mod TypedGroups
 pub mod Typed
 pub mod Rules
 pub mod Stacked
+pub mod Versions
+pub mod Stored

@@ -5,14 +5,23 @@
 mod bookings;
 mod callers;
 mod groups;
+mod headers;
 pub mod laws;
 mod leaves;
+mod loading;
 mod names;
 mod reading;
 mod rows;
+mod stored;
 mod text;
 mod typed;
 mod values;
+mod versions;
+mod writing;
+mod written;
 
+pub use loading::{migrate, read_kept};
 pub use reading::read_row;
+pub use stored::{KeptError, KeptRow};
 pub use text::row_text;
+pub use writing::kept_rows;

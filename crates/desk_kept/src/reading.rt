@@ -81,7 +81,7 @@ fn with_key(key: &Key, row: AnyRow) -> Result<AnyRow, BodyError>
 }
 
 #[tactic(auto, unfolding(crate::specs::Kept::row_in))]
-fn read_body(alloc: Global, key: &Key, body: &Value) -> Result<AnyRow, BodyError>
+pub(crate) fn read_body(alloc: Global, key: &Key, body: &Value) -> Result<AnyRow, BodyError>
     ensures { IsRead (row_in key.now (view body.now)) result }
 {
     if !body.is_object() {

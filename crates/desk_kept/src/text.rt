@@ -45,12 +45,13 @@ fn row_value(alloc: Global, row: &AnyRow) -> Result<Value, AllocError>
     }
 }
 
-/// The text of a row (RFC 8259): compact, with the names of each object in the order of their bytes. The row is read again from it.
+/// The text of a row (RFC 8259): compact, with the names of each object in the order of their bytes. A row that keeps its rules is
+/// read again from it.
 pub fn row_text(alloc: Global, row: &AnyRow) -> Result<Bytes, NoMemory>
-    requires rules { KeepsRules row.now }
+    requires horizon { HasHorizon row.now }
     ensures typed { IsTyped row.now }
     ensures text { IfOk result (λ text. text ≡ row_text row.now) }
-    ensures reads_back { IfOk result (λ text. row_of_text (key_of row.now) text ≡ Ok row.now) }
+    ensures reads_back { KeepsRules row.now → row_of_text (key_of row.now) (row_text row.now) ≡ Ok row.now }
 {
     look_at(row);
     let value = row_value(alloc, row)?;

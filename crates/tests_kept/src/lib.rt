@@ -4,4 +4,6 @@
 #[cfg(test)]
 mod callers;
 #[cfg(test)]
+mod stores;
+#[cfg(test)]
 mod texts;
